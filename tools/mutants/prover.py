@@ -57,14 +57,14 @@ def try_round(toolchain, crate, mutants, seed):
         functions = sorted({it for mutant in mutants for it in mutant.functions})
         words = toolchain.words(crate, room, seed) + [f"--only={it}" for it in functions]
         ran = subprocess.run(words, cwd=room, stdin=subprocess.DEVNULL, stdout=subprocess.PIPE, stderr=subprocess.STDOUT, text=True, errors="replace")
-    told = Told(ran.stdout)
-    missing = [it for it in functions if not told.verdicts_on(it)]
+    report = Report(ran.stdout)
+    missing = [it for it in functions if not report.verdicts_on(it)]
     if ran.returncode not in (0, 1) or missing:
         raise BadMutant(f"{crate}: {', '.join(map(str, mutants))}: no verdict on {', '.join(missing)}:\n{ran.stdout[-2000:]}")
-    return {mutant: told.refusal(mutant) for mutant in mutants}
+    return {mutant: report.refusal(mutant) for mutant in mutants}
 
 
-class Told:
+class Report:
     """What the prover said: its verdicts on functions, and the errors at places of sources and proofs."""
 
     def __init__(self, text):

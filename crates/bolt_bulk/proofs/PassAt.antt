@@ -53,11 +53,6 @@ module _ {S : Type 0} {wanted : Wanted} {sink : Ghosts S} {setup : PageSetup} {o
       → Steps {A = B} wanted sink old new setup put At (Err fault.Memory)
   steps_failed one = record { more = one.more; puts = Wrote-gave_up one.puts; at = tt; before = one.before; large = λ e. absurd cc }
 
-  -- what the sink has accepted, in other words
-  pub steps_to : {A : Type 0} {mid : S} {At : List Placed → Type 0} {result : Result A BulkFault} → mid ≡ new
-      → Steps wanted sink old mid setup put At result → Steps wanted sink old new setup put At result
-  steps_to {At = At} {result = result} same steps = subst (λ (s : S). Steps wanted sink old s setup put At result) same steps
-
   -- what a step leaves, in other words
   pub steps_map : {A : Type 0} {At Then : List Placed → Type 0} {result : Result A BulkFault} → ((all : List Placed) → At all → Then all)
       → Steps wanted sink old new setup put At result → Steps wanted sink old new setup put Then result

@@ -8,14 +8,14 @@ use Rattle.std.proofs.Common.{arith, append_assoc}
 use Rattle.bolt_check.specs.{Keys.Key, Counts.saturated}
 use Rattle.bolt_format.specs.{declared.sink.Sink.Ghosts}
 use Rattle.bolt_tree.specs.{Entries.Item, Listing.Member, Paths.Path, Tree.Tree, Tree.end, Tree.listing_below, Tree.listing_of, Tree.with_bucket}
-use Rattle.bolt_tree.specs.{Tree.with_value}
+use Rattle.bolt_tree.specs.{Paths.last_key, Tree.with_value}
 use Rattle.bolt_layout.specs.{Laid.Placed, Layout.first_page, Layout.layout_held, Layout.layout_high_water, Layout.layout_pages, Layout.layout_root}
 use Rattle.bolt_layout.specs.{Layout.placed_bytes, Storable.HasLengths}
 use Rattle.bolt_layout.specs.{Openings.leaf_pages, Openings.opened_in, declared.Layout.Layout, declared.Layout.TheVariants.Balanced}
 use Rattle.bolt_layout.specs.{declared.Layout.TheVariants.Plain, Items.items_of}
 use Rattle.bolt_bulk.specs.Private.{AreComingAround, AreOpenRuns, bucket_end_next, bucket_runs, BucketEnds, BucketRunsView, Closes, ClosesBucket}
 use Rattle.bolt_bulk.specs.Private.{pass_depth, EndsPass}
-use Rattle.bolt_bulk.specs.Private.{FitLimits, BucketFrame, HasLeft, HasNoted, held_so_far, PassIsAt, HasMemberLengths, PassIsOn, Known, last_part}
+use Rattle.bolt_bulk.specs.Private.{FitLimits, BucketFrame, HasLeft, HasNoted, held_so_far, PassIsAt, HasMemberLengths, PassIsOn, Known}
 use Rattle.bolt_bulk.specs.Private.{Parent, parent_of, limit_in, limits_by, limits_with, no_leaves, nothing_open, Open, open_in, runs_end}
 use Rattle.bolt_bulk.specs.Private.{runs_end_put, Steps, Wanted}
 use Rattle.bolt_bulk.specs.{declared.page_setup.PageSetup.PageSetup, declared.bulk_fault.BulkFault.BulkFault, declared.pass.PassEnd.PassEnd}
@@ -31,7 +31,7 @@ use Rattle.bolt_format.proofs.Exports.{Wrote-then}
 
 -- ---- the next member
 
-pub last_pushed : (path : Path) (key : Key) → last_part (path ++ key ∷ []) ≡ key
+pub last_pushed : (path : Path) (key : Key) → last_key (path ++ key ∷ []) ≡ key
 last_pushed (part ∷ next ∷ path) key = last_pushed (next ∷ path) key
 last_pushed path key = grind arith
 
@@ -43,7 +43,7 @@ pub record HasNext (wanted : Wanted) (pass : Pass) (next : ℕ) (key : Key) (ite
   pub members_are : left_after parents key item inside after ≡ members
 
 pub has_next : (wanted : Wanted) (pass : Pass) (next : ℕ) (path : Path) (key : Key) (item : Item) (members : List Member) (put : List Placed)
-    → HasLeft wanted pass next ((path, item) ∷ members) put → pass_depth pass ≤ length path → last_part path ≡ key
+    → HasLeft wanted pass next ((path, item) ∷ members) put → pass_depth pass ≤ length path → last_key path ≡ key
     → HasNext wanted pass next key item members put
 has_next wanted pass next path key item members put has deep last =
     let d = depth_parents wanted pass next has.parents has.left put has.at in
@@ -53,7 +53,7 @@ has_next wanted pass next path key item members put has deep last =
 
 -- The members of the listing of a tree that can be stored fit.
 one_part : (path : Path) (key : Key) → length key ≤ 1073741824
-    → (1 ≤ length (path ++ key ∷ [])) × (length (last_part (path ++ key ∷ [])) ≤ 1073741824)
+    → (1 ≤ length (path ++ key ∷ [])) × (length (last_key (path ++ key ∷ [])) ≤ 1073741824)
 one_part path key short = grind (arith, length-append, last_pushed)
 
 pub members_fit : (path : Path) (tree : Tree) → HasLengths tree → AllByRecursion HasMemberLengths (listing_below path tree)

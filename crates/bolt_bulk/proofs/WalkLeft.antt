@@ -2,11 +2,11 @@
 use Rattle.std.proofs.Common.{◌≡◌, ◌≤◌, List, ◌∷◌, length, subst, arith}
 use Rattle.std.proofs.{Math.Logic.∥∥₁_elim, Math.Logic.∥∥₁_map, Props.props}
 use Rattle.std.specs.List.{AllByRecursion}
-use Rattle.bolt_tree.specs.{Entries.Bucket, Entries.Item, Entries.Value, Listing.Member, Paths.Path}
-use Rattle.bolt_bulk.specs.{Private.HasItemLength, Private.HasMemberLengths, Private.last_part, WholeListings.IsAgain, WholeListings.IsWholeListing}
+use Rattle.bolt_tree.specs.{Entries.Bucket, Entries.Item, Entries.Value, Listing.Member, Paths.Path, Paths.last_key}
+use Rattle.bolt_bulk.specs.{Private.HasItemLength, Private.HasMemberLengths, WholeListings.IsAgain, WholeListings.IsWholeListing}
 use Rattle.bolt_bulk.proofs.FileLayouts.{listing_fits}
 
-fit_prop : (path : Path) (item : Item) → IsProp ((1 ≤ length path) × (length (last_part path) ≤ 1073741824) × HasItemLength item)
+fit_prop : (path : Path) (item : Item) → IsProp ((1 ≤ length path) × (length (last_key path) ≤ 1073741824) × HasItemLength item)
 fit_prop path (Value value) = Prim.hlevel props
 fit_prop path (Bucket sequence) = Prim.hlevel props
 
@@ -20,7 +20,7 @@ module _ {M W : Type 0} (reads : M → W → Type 0) (left : M → W → List Me
   -- The first of the members that are left fits,
   pub first_fits : (first old new : M) (path : Path) (item : Item) → ∥ ((whole : W) × reads first whole) ∥₁ → AllFit first old
       → GivesFirst first old new path item
-      → (1 ≤ length path) × (length (last_part path) ≤ 1073741824) × HasItemLength item
+      → (1 ≤ length path) × (length (last_key path) ≤ 1073741824) × HasItemLength item
   first_fits first old new path item some fit next = ∥∥₁_elim some (fit_prop path item) (λ is.
       ∥∥₁_elim (fit is.0 is.1) (fit_prop path item) (λ all. (subst (AllByRecursion HasMemberLengths) (next is.0 is.1) all).0))
 

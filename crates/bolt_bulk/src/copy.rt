@@ -48,21 +48,7 @@ pub fn compact<S: Sink>(
     requires { IsPageSize page_size }
     ensures { CopiesFile S.taken S.failed sink.old sink.new checked.entry Plain page_size result }
 {
-    compact_as(alloc, checked, Layout::Plain, page_size, sink)
-}
-
-/// Writes the copy of a file in this layout.
-fn compact_as<S: Sink>(
-    alloc: Global,
-    checked: Checked<'_>,
-    layout: Layout,
-    page_size: u64,
-    sink: &mut S,
-) -> Result<Done, BulkFault>
-    requires { IsPageSize page_size }
-    ensures { CopiesFile S.taken S.failed sink.old sink.new checked.entry layout page_size result }
-{
-    let blueprint = sound_blueprint(&checked, layout, page_size);
+    let blueprint = sound_blueprint(&checked, Layout::Plain, page_size);
     let mut walk = Walk::new(alloc, checked);
     a_walk_is_whole(&walk);
     compact_members(alloc, &mut walk, &blueprint, sink)

@@ -11,8 +11,8 @@ use std::collections::BTreeMap;
 
 /// The rows of branches that have a limit: only so many runs may begin after the first one, and the
 /// last page joins the last run even if that has no room for it. A row is named by the number of
-/// its bucket and by its level. Buckets are numbered in the order in which a pass opens them; the
-/// level above the leaves is 0.
+/// its bucket and by its level. Buckets are numbered in the order in which a pass opens them. Here only
+/// levels of branches are numbered: the branches above the leaves are level 0.
 #[derive(Drop)]
 pub(crate) struct Limits {
     pub rows: BTreeMap<(u64, usize), u64>,

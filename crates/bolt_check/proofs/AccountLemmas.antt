@@ -111,9 +111,6 @@ module _ (file : List ℕ) (meta : Meta) where
       pub accounts_wrong : findings ≢ [] → HasAccounts file meta used → ⊥
       accounts_wrong some has = finding_none meta.high_water (IsInUse file meta used) (times_in ids) findings reported (has.lists ids are) some
 
-      no_page : (x : Finding) → IsFreelistFinding file meta used x → ⊥
-      no_page x h = grind arith
-
       pub accounts_reported : AreAccountFindings file meta used findings
       accounts_reported = grind arith
 

@@ -6,10 +6,11 @@ use Rattle.bolt_check.specs.{CheckedFiles.has_accounts, Roles.AreRoles, Ways.rea
 use Rattle.bolt_check.specs.declared.role_table.Role.TheVariants as role
 use Rattle.bolt_check.proofs.{FreelistLemmas.freelist_page, FreelistLemmas.freelist_within, HighWaterLemmas.node_shown, HighWaterLemmas.node_within}
 use Rattle.bolt_check.proofs.{RoleExists.role_exists, RoleLemmas.page_positive, RoleOnce.role_once}
+use Rattle.bolt_check.specs.CheckedFiles.{checked_viewers}
 
 -- a file whose accounts were tested is sound with its accounts
 pub sound_accounts : (checked : Checked) → has_accounts checked ≡ true → ∥ IsSound (bytes_of checked) (meta_of checked) true ∥₁
-unfolding bytes_of meta_of has_accounts
+unfolding checked_viewers
 sound_accounts checked is = ∥∥₁_map checked.sound (λ tested. tested.whole is)
 
 -- what follows of that, and has one proof, holds of it

@@ -1,6 +1,6 @@
 -- Claiming lowers the count of what is unclaimed, and listing an id claims nothing.
-use Rattle.std.proofs.{lemmas.Grind.common_steps, lemmas.List.get_or_past, lemmas.List.set_past, lemmas.List.Sums.sum_by-set}
-use Rattle.std.proofs.Common.{◌≡◌, ◌↔◌, ◌∙◌, ℕ, ◌<◌, ◌≤◌, List, length, min, set, arith, cond, not, true, inl, inr, ap, get_or, get_or-set_other}
+use Rattle.std.proofs.{lemmas.List.get_or_past, lemmas.List.set_past, lemmas.List.Sums.sum_by-set}
+use Rattle.std.proofs.Common.{◌≡◌, ◌↔◌, ◌∙◌, ℕ, ◌<◌, ◌≤◌, List, length, set, arith, cond, not, true, inl, inr, ap, get_or, get_or-set_other}
 use Rattle.std.proofs.Common.{get_or-set_same, refl, sym}
 use Rattle.bolt_check.proofs.Words.{cases_eq, cases_lt, first_use, get_or_default, is_used, IsUnclaimed, le-ltb, lt-ltb, PageUse, times_of, unclaimed}
 use Rattle.bolt_check.proofs.Words.{Unused, use_at}
@@ -39,7 +39,3 @@ first_unlisted n = elim (cases_lt n 2) [ inl low ↦ rw (lt-ltb n 2 low) refl | 
 
 pub first_claimed : (n : ℕ) → (is_used (first_use n) ≡ true) ↔ (n < 2)
 first_claimed n = grind (arith, lt-ltb)
-
-pub starts : (t : List PageUse) (i : ℕ) → ((k : ℕ) → k < i → use_at t k ≡ Used) → ((k : ℕ) → i ≤ k → k < length t → use_at t k ≡ Unused)
-    → i ≤ 2 → min (length t) 2 ≤ i → (n : ℕ) → use_at t n ≡ first_use n
-starts t i metas others few most n = grind (arith, common_steps, cases_lt, lt-ltb, le-ltb)

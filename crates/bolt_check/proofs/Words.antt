@@ -14,7 +14,7 @@ pub use Rattle.bolt_check.specs.Private.Freelists.{AreAllFindings, AreFindingsBe
 pub use Rattle.bolt_check.specs.Private.Freelists.{IsUnlistedInterval, IsSettled, IsUnlisted, is_in_use, page_findings, interval_findings}
 pub use Rattle.bolt_check.specs.{Private.Pending.forest, Private.Pending.somes, Private.Pending.spots_of, Private.SearchFaults.IsSearchFault}
 pub use Rattle.bolt_check.specs.Private.Tables.{HasRoom, IsClaimed, IsUnclaimed, first_use, is_used, times_of, unclaimed, use_at}
-pub use Rattle.bolt_check.specs.Private.Uses.{HasUse, IsMetaUse, IsNoted, UseAt, UseOf, use_of}
+pub use Rattle.bolt_check.specs.Private.Uses.{HasUse, IsMetaUse, IsNoted, use_of}
 pub use Rattle.bolt_check.specs.{Roles.HasRole, Roles.IsFirstPage, Shape.HasShape, Shape.child_at, Shape.child_in, Shape.leads}
 pub use Rattle.bolt_check.specs.ShownSpots.{bound_of, inline_keys, page_spot, shown_inner, spot_at}
 pub use Rattle.bolt_check.specs.{Sound.HasRightAccounts, Sound.HasSoundTrees, Sound.IsFirstFinding, Sound.IsSound, Sound.IsUsed}
@@ -42,7 +42,7 @@ pub use Rattle.std.proofs.lemmas.Bool.{ltb-true, ne_eqb, not-true}
 pub use Rattle.std.proofs.lemmas.Bool.Decides.{nat_tests}
 pub use Rattle.std.proofs.lemmas.Grind.{merely}
 pub use Rattle.std.proofs.lemmas.List.{get_or_default}
-pub use Rattle.std.proofs.lemmas.List.Elements.{All-cons, All-nil, All-weaker}
+pub use Rattle.std.proofs.lemmas.List.Elements.{All-weaker}
 pub use Rattle.std.proofs.lemmas.List.Sums.{sum_by-cons}
 pub use Rattle.std.proofs.lemmas.Option.{none-some, same_Some, slice_get-map}
 pub use Rattle.std.proofs.lemmas.Result.{IfOk-weaker}

@@ -1,5 +1,5 @@
 -- What a checked file shows.
-use Rattle.std.specs.Prelude.{ℕ, List, Bool}
+use Rattle.std.specs.Prelude.{ℕ, List, Bool, ⊤}
 use Rattle.bolt_format.specs.declared.meta.Meta.{Meta}
 use Rattle.bolt_check.specs.{Nodes.Nodes, Nodes.node_at, declared.checked.Checked.Checked}
 
@@ -11,6 +11,11 @@ meta_of checked = checked.meta
 
 unfoldable pub has_accounts : Checked → Bool
 has_accounts checked = checked.accounts
+
+-- all that a checked file shows, to be unfolded together
+unfoldable pub checked_viewers : ⊤
+unfolding bytes_of has_accounts meta_of
+checked_viewers = tt
 
 -- the pages of a checked file as nodes
 abbrev pub checked_nodes : Checked → Nodes

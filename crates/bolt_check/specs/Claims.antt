@@ -1,5 +1,5 @@
 -- What the claimed pages show.
-use Rattle.std.specs.Prelude.{◌≡◌, ℕ, Bool, true, List, length}
+use Rattle.std.specs.Prelude.{◌≡◌, ℕ, Bool, true, List, length, ⊤}
 use Rattle.bolt_format.specs.declared.meta.Meta.{Meta}
 use Rattle.bolt_check.specs.{Nodes.Nodes, Nodes.node_at, Private.Tables.is_used, Private.Tables.unclaimed, Private.Tables.use_at}
 use Rattle.bolt_check.specs.{declared.claims.Claims.Claims}
@@ -33,3 +33,8 @@ claims_visited claims = claims.visited
 -- how many pages of the table are not claimed
 unfoldable pub pages_left : Claims → ℕ
 pages_left claims = unclaimed claims.table.items
+
+-- all that claims show, to be unfolded together
+unfoldable pub claims_viewers : ⊤
+unfolding claims_file claims_length claims_meta claims_visited is_claimed pages_left
+claims_viewers = tt

@@ -1,5 +1,5 @@
 -- What the leftovers of a file show.
-use Rattle.std.specs.Prelude.{◌≡◌, ◌==◌, ℕ, Bool, true, List, length, not}
+use Rattle.std.specs.Prelude.{◌≡◌, ◌==◌, ℕ, Bool, true, List, length, not, ⊤}
 use Rattle.bolt_format.specs.declared.meta.Meta.{Meta}
 use Rattle.bolt_check.specs.{Nodes.Nodes, Nodes.node_at, Private.Tables.is_used, Private.Tables.times_of, Private.Tables.use_at}
 use Rattle.bolt_check.specs.{declared.leftovers.Leftovers.Leftovers}
@@ -31,3 +31,8 @@ is_listed leftovers n = not (times_of (use_at leftovers.table.items n) == 0)
 
 abbrev pub HasListed : Leftovers → ℕ → Type 0
 HasListed leftovers n = is_listed leftovers n ≡ true
+
+-- all that leftovers show, to be unfolded together
+unfoldable pub leftovers_viewers : ⊤
+unfolding leftovers_file leftovers_length leftovers_meta is_listed is_taken
+leftovers_viewers = tt

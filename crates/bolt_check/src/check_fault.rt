@@ -19,7 +19,8 @@ pub enum CheckFault {
     /// The trees aren't sound: the first finding.
     #[error("structure")]
     Structure(Finding),
-    /// The trees are sound, but the accounts are wrong: all findings. Only `check` returns it.
+    /// The trees are sound, but the accounts are wrong: all findings. Only `check`, `check_roles` and
+    /// `check_claimed` return it.
     #[error("accounts")]
     Accounts(Findings),
     /// Memory ran out.

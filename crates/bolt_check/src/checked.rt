@@ -16,7 +16,7 @@ pub struct Checked<'a> {
     pub ghost sound: { ∥ IsTested bytes.now meta accounts ∥₁ },
 }
 
-#[tactic(auto, unfolding(crate::specs::CheckedFiles::bytes_of, crate::specs::CheckedFiles::meta_of, crate::specs::CheckedFiles::has_accounts))]
+#[tactic(auto, unfolding(crate::specs::CheckedFiles::checked_viewers))]
 impl<'a> Checked<'a> {
     ghost use Rattle.bolt_check.specs.CheckedFiles.{bytes_of, has_accounts, meta_of};
 

@@ -34,7 +34,7 @@ pub struct Claims<'a> {
     ghost fits: { visited < 2 ^ 64 },
 }
 
-#[tactic(auto, unfolding(crate::specs::Claims::claims_file, crate::specs::Claims::claims_length, crate::specs::Claims::claims_meta, crate::specs::Claims::claims_visited, crate::specs::Claims::is_claimed, crate::specs::Claims::pages_left))]
+#[tactic(auto, unfolding(crate::specs::Claims::claims_viewers))]
 impl<'a> Claims<'a> {
     ghost use Rattle.bolt_check.specs.Claims.{HasClaimed, claims_file, claims_length, claims_meta, claims_nodes, claims_visited, is_claimed};
     ghost use Rattle.bolt_check.specs.Claims.{pages_left};

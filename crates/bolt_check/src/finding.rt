@@ -16,7 +16,7 @@ pub struct Finding {
 }
 
 impl Finding {
-    /// Two ways lead to the page, or it is a meta page.
+    /// The page is used twice: by two ways, or by two of a way, the freelist and a meta.
     pub const TWICE: u8 = 18;
     /// A key isn't above the preceding key of its page.
     pub const ORDER: u8 = 19;

@@ -27,7 +27,7 @@ pub struct Leftovers<'a> {
     ghost room: { HasRoom file.now meta table.items },
 }
 
-#[tactic(auto, unfolding(crate::specs::Claims::claims_file, crate::specs::Claims::claims_meta, crate::specs::Claims::is_claimed, crate::specs::Leftovers::leftovers_file, crate::specs::Leftovers::leftovers_length, crate::specs::Leftovers::leftovers_meta, crate::specs::Leftovers::is_listed, crate::specs::Leftovers::is_taken))]
+#[tactic(auto, unfolding(crate::specs::Claims::claims_viewers, crate::specs::Leftovers::leftovers_viewers))]
 impl<'a> Leftovers<'a> {
     ghost use Rattle.bolt_check.specs.Leftovers.{HasListed, HasTaken, is_listed, is_taken, leftovers_file, leftovers_length, leftovers_meta};
     ghost use Rattle.bolt_check.specs.Leftovers.{leftovers_nodes};
@@ -48,7 +48,7 @@ impl<'a> Leftovers<'a> {
     }
 
     /// The number that pages to be taken are below.
-    #[tactic(auto, using(crate::proofs::LeafLemmas::node_in_table), unfolding(crate::specs::Leftovers::leftovers_file, crate::specs::Leftovers::leftovers_length, crate::specs::Leftovers::leftovers_meta))]
+    #[tactic(auto, using(crate::proofs::LeafLemmas::node_in_table), unfolding(crate::specs::Leftovers::leftovers_viewers))]
     pub fn end(&self) -> u64
         ensures within { result ≤ leftovers_length self.now }
         ensures below { result ≤ (leftovers_meta self.now).high_water }

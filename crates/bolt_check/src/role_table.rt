@@ -5,7 +5,7 @@ ghost use Rattle.bolt_check.specs.{Private.Tables.use_at};
 ghost use Rattle.bolt_check.specs.Roles.{HasRole};
 
 use crate::checked::Checked;
-use crate::table::PageUse;
+use crate::table::{PageUse, use_at_first};
 use bolt_format::Meta;
 use bolt_format::laws::fits;
 
@@ -46,10 +46,7 @@ fn page_use(table: &[PageUse], id: u64) -> PageUse
     if id < table.len() as u64 {
         return table[id as usize];
     }
-    if id < 2 {
-        return PageUse::Used;
-    }
-    PageUse::Unused
+    use_at_first(id as usize)
 }
 
 /// The role of a page with this use.

@@ -30,7 +30,7 @@ use std::alloc::Global;
 /// `Open` with the fault of byte 0 if no meta is valid; `Structure` with the first finding of the
 /// trees; `Accounts` with all findings of the accounts, if the trees are sound; `Memory` if memory
 /// runs out.
-#[tactic(auto, unfolding(crate::specs::CheckedFiles::bytes_of, crate::specs::CheckedFiles::has_accounts, crate::specs::CheckedFiles::meta_of))]
+#[tactic(auto, unfolding(crate::specs::CheckedFiles::checked_viewers))]
 pub fn check<'a>(alloc: Global, file: &'a [u8]) -> Result<Checked<'a>, CheckFault>
     ensures bytes { IfOk result (λ checked. bytes_of checked ≡ file.now) }
     ensures meta { IfOk result (λ checked. (slot : _) × IsActive file.now slot (meta_of checked)) }
@@ -52,7 +52,7 @@ pub fn check<'a>(alloc: Global, file: &'a [u8]) -> Result<Checked<'a>, CheckFaul
 /// # Errors
 ///
 /// Those of `check`.
-#[tactic(auto, unfolding(crate::specs::RoledFiles::roles_checked, crate::specs::CheckedFiles::bytes_of, crate::specs::CheckedFiles::has_accounts, crate::specs::CheckedFiles::meta_of))]
+#[tactic(auto, unfolding(crate::specs::RoledFiles::roles_checked, crate::specs::CheckedFiles::checked_viewers))]
 pub fn check_roles<'a>(alloc: Global, file: &'a [u8]) -> Result<Roles<'a>, CheckFault>
     ensures bytes { IfOk result (λ roles. bytes_of (roles_checked roles) ≡ file.now) }
     ensures meta { IfOk result (λ roles. (slot : _)
@@ -115,7 +115,7 @@ fn check_accounts(
 ///
 /// `Accounts` with all findings of the accounts; `Memory` if memory runs out. Never `Open` or
 /// `Structure`.
-#[tactic(auto, unfolding(crate::specs::CheckedFiles::bytes_of, crate::specs::CheckedFiles::has_accounts, crate::specs::CheckedFiles::meta_of, crate::specs::Claims::claims_file, crate::specs::Claims::claims_meta, crate::specs::Claims::is_claimed))]
+#[tactic(auto, unfolding(crate::specs::CheckedFiles::checked_viewers, crate::specs::Claims::claims_viewers))]
 pub fn check_claimed<'a>(
     alloc: Global,
     claims: Claims<'a>,
@@ -173,7 +173,7 @@ pub fn check_slot<'a>(alloc: Global, file: &'a [u8], slot: Slot) -> Result<Check
 ///
 /// `Structure` with the first finding of the trees; `Memory` if memory runs out. Never `Open` or
 /// `Accounts`.
-#[tactic(auto, using(crate::proofs::Shaping::shape_of), unfolding(crate::specs::CheckedFiles::bytes_of, crate::specs::CheckedFiles::has_accounts, crate::specs::CheckedFiles::meta_of))]
+#[tactic(auto, using(crate::proofs::Shaping::shape_of), unfolding(crate::specs::CheckedFiles::checked_viewers))]
 pub fn check_under<'a>(alloc: Global, file: &'a [u8], meta: Meta) -> Result<Checked<'a>, CheckFault>
     requires { 0 < meta.page_size }
     ensures bytes { IfOk result (λ checked. bytes_of checked ≡ file.now) }

@@ -20,7 +20,7 @@ fn only_memory(_fault: CheckFault) -> NoMemory
 /// # Errors
 ///
 /// `NoMemory` if memory runs out. It needs memory as `check` does.
-#[tactic(auto, using(crate::proofs::RoleFacts::sound_accounts), unfolding(crate::specs::RoledFiles::roles_checked, crate::specs::CheckedFiles::bytes_of, crate::specs::CheckedFiles::has_accounts, crate::specs::CheckedFiles::meta_of))]
+#[tactic(auto, using(crate::proofs::RoleFacts::sound_accounts), unfolding(crate::specs::RoledFiles::roles_checked, crate::specs::CheckedFiles::checked_viewers))]
 pub fn roles<'a>(alloc: Global, checked: Checked<'a>) -> Result<Roles<'a>, NoMemory>
     requires { has_accounts checked ≡ true }
     ensures { IfOk result (λ roles. roles_checked roles ≡ checked.entry) }

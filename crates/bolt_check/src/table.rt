@@ -62,7 +62,7 @@ pub(crate) fn reset(table: &mut [PageUse])
 }
 
 /// What a page is used for from the start.
-fn use_at_first(n: usize) -> PageUse
+pub(crate) fn use_at_first(n: usize) -> PageUse
     ensures { result ≡ first_use n }
 {
     if n < 2 {

@@ -1,11 +1,10 @@
 -- What a job does, whatever its standard output and its target are.
 use Rattle.std.proofs.Common.{◌≡◌, ◌<◌, ◌∙◌, ap, inl, inr, ℕ, List, [], Option, None, Some, Bool, length, refl, subst, sym}
-use Rattle.bolt_cli.proofs.Vocabulary.{Answer, CopiesUnless, WritesAnswer, DoesJob, JobEnding, Extent, Ghosts, Job, Layout, MakesCopy, Member}
+use Rattle.bolt_cli.proofs.Vocabulary.{Answer, CopiesUnless, CopyKind, WritesAnswer, DoesJob, JobEnding, Extent, Ghosts, Job, MakesCopy, Member}
 use Rattle.bolt_cli.proofs.Vocabulary.{MetaChoice, PageSize, WritesCopy, WritesRestored, copy_page_size, copy_report, done, buffered_failures}
-use Rattle.bolt_cli.proofs.Vocabulary.{buffered_of, buffered_text, hash_refusal, layout_of_listing, lengths_line, repair_report, target_name}
+use Rattle.bolt_cli.proofs.Vocabulary.{buffered_of, buffered_text, hash_refusal, lengths_line, repair_report, target_name}
 use Rattle.bolt_cli.proofs.Vocabulary.{text_members, ∥∥₁_map}
 use Rattle.bolt_job.specs.declared.job.Job.TheVariants as job
-use Rattle.bolt_layout.specs.declared.Layout.TheVariants.{Balanced}
 
 module _ {O T : Type 0} (out_taken : O → Option (List ℕ)) (out_failed : O → ℕ) (out_old out_new : O)
     (target_taken : T → Option (List ℕ)) (target_failed : T → ℕ) (target_old target_new : T) where
@@ -37,70 +36,71 @@ module _ {O T : Type 0} (out : Ghosts O) (target : Ghosts T) (out_old out_new : 
       let sound : failures ≡ 0 = sym fails ∙ ap out.failed same ∙ was_sound in
       ap (λ t. buffered_of t failures) empty ∙ ap (buffered_of []) sound
 
-  written : (snapshot : Bool) (listing : List Member) (layout : List ℕ) (answer : ℕ → Answer) (ending : JobEnding)
-      → WritesCopy out.taken out.failed out_old out_new target.taken target.failed target_old target_new snapshot listing layout answer ending
-      → WritesCopy buffered_text buffered_failures (buffered_of [] 0) (buffered_of text failures) target.taken target.failed target_old target_new snapshot
-      listing layout answer ending
-  written snapshot listing layout answer ending (inl (small, good, put, sound, does)) = inl (small, good, put, sound, does_buffered _ ending does)
-  written snapshot listing layout answer ending (inr (failure, stops, same, is)) = inr (failure, stops, untouched same, is)
+  written : (kind : CopyKind) (page_size : ℕ) (listing : List Member) (sequence : ℕ) (answer : ℕ → Answer) (ending : JobEnding)
+      → WritesCopy out.taken out.failed out_old out_new target.taken target.failed target_old target_new kind page_size listing sequence answer ending
+      → WritesCopy buffered_text buffered_failures (buffered_of [] 0) (buffered_of text failures) target.taken target.failed target_old target_new
+      kind page_size listing sequence answer ending
+  written kind page_size listing sequence answer ending (inl (small, good, put, sound, does)) =
+      inl (small, good, put, sound, does_buffered _ ending does)
+  written kind page_size listing sequence answer ending (inr (failure, stops, same, is)) = inr (failure, stops, untouched same, is)
 
-  module _ (snapshot : Bool) (listing : List Member) (layout : List ℕ) (answer : ℕ → Answer) (ending : JobEnding) where
+  module _ (kind : CopyKind) (page_size : ℕ) (listing : List Member) (sequence : ℕ) (answer : ℕ → Answer) (ending : JobEnding) where
     unless : (hash : _)
         → CopiesUnless out.taken out.failed out_old out_new target.taken target.failed target_old target_new hash
-        (WritesCopy out.taken out.failed out_old out_new target.taken target.failed target_old target_new snapshot listing layout answer) ending
+        (WritesCopy out.taken out.failed out_old out_new target.taken target.failed target_old target_new kind page_size listing sequence answer)
+        ending
         → CopiesUnless buffered_text buffered_failures (buffered_of [] 0) (buffered_of text failures) target.taken target.failed target_old target_new hash
-        (WritesCopy buffered_text buffered_failures (buffered_of [] 0) (buffered_of text failures) target.taken target.failed target_old target_new snapshot
-        listing layout answer) ending
+        (WritesCopy buffered_text buffered_failures (buffered_of [] 0) (buffered_of text failures) target.taken target.failed target_old target_new
+        kind page_size listing sequence answer) ending
     unless (Some fault) (same, untouched_target, is) = (untouched same, untouched_target, is)
-    unless None writes = written snapshot listing layout answer ending writes
+    unless None writes = written kind page_size listing sequence answer ending writes
 
-  copied : (file : List ℕ) (choice : MetaChoice) (size : Option PageSize) (which : Layout) (snapshot : Bool) (extent : Extent) (ending : JobEnding)
-      → MakesCopy out.taken out.failed out_old out_new target.taken target.failed target_old target_new file choice size which snapshot extent ending
+  copied : (file : List ℕ) (choice : MetaChoice) (size : Option PageSize) (kind : CopyKind) (extent : Extent) (ending : JobEnding)
+      → MakesCopy out.taken out.failed out_old out_new target.taken target.failed target_old target_new file choice size kind extent ending
       → MakesCopy buffered_text buffered_failures (buffered_of [] 0) (buffered_of text failures) target.taken target.failed target_old target_new file
-      choice size which snapshot extent ending
-  copied file choice size which snapshot extent ending (inl (meta, listing, lost, found, read, faults, are, copies)) =
-      let layout = layout_of_listing which (copy_page_size size meta) listing meta.root_sequence in
-      inl (
-        meta,
-        listing,
-        lost,
-        found,
-        read,
-        faults,
-        are,
-        unless snapshot listing layout (copy_report faults lost found (length file)) ending (hash_refusal extent faults.hash) copies,
-      )
-  copied file choice size which snapshot extent ending (inr (why, unread, (same, untouched_target, is))) =
+      choice size kind extent ending
+  copied file choice size kind extent ending (inl (meta, listing, lost, found, read, faults, are, copies)) = inl (
+    meta,
+    listing,
+    lost,
+    found,
+    read,
+    faults,
+    are,
+    unless kind (copy_page_size size meta) listing meta.root_sequence (copy_report faults lost found (length file)) ending
+        (hash_refusal extent faults.hash) copies,
+  )
+  copied file choice size kind extent ending (inr (why, unread, (same, untouched_target, is))) =
       inr (why, unread, (untouched same, untouched_target, is))
 
-  restored : (file : List ℕ) (choice : MetaChoice) (size : Option PageSize) (snapshot search : Bool) (ending : JobEnding)
-      → WritesRestored out.taken out.failed out_old out_new target.taken target.failed target_old target_new file choice size snapshot search ending
+  restored : (file : List ℕ) (choice : MetaChoice) (size : Option PageSize) (kind : CopyKind) (search : Bool) (ending : JobEnding)
+      → WritesRestored out.taken out.failed out_old out_new target.taken target.failed target_old target_new file choice size kind search ending
       → WritesRestored buffered_text buffered_failures (buffered_of [] 0) (buffered_of text failures) target.taken target.failed target_old target_new file
-      choice size snapshot search ending
-  restored file choice size snapshot search ending (meta, listing, lost, others, back, left_out, is, faults, are, writes) =
-      let layout = layout_of_listing Balanced (copy_page_size size meta) listing meta.root_sequence in (
-        meta,
-        listing,
-        lost,
-        others,
-        back,
-        left_out,
-        is,
-        faults,
-        are,
-        written snapshot listing layout (repair_report faults lost others back left_out (length file)) ending writes,
-      )
+      choice size kind search ending
+  restored file choice size kind search ending (meta, listing, lost, others, back, left_out, is, faults, are, writes) = (
+    meta,
+    listing,
+    lost,
+    others,
+    back,
+    left_out,
+    is,
+    faults,
+    are,
+    written kind (copy_page_size size meta) listing meta.root_sequence (repair_report faults lost others back left_out (length file)) ending writes,
+  )
 
   pub buffered_job : (file : List ℕ) (j : Job) (ending : JobEnding)
       → DoesJob out.taken out.failed out_old out_new target.taken target.failed target_old target_new file j ending
       → DoesJob buffered_text buffered_failures (buffered_of [] 0) (buffered_of text failures) target.taken target.failed target_old target_new file j ending
-  buffered_job file (job.Compact j) ending does = copied file j.meta j.page_size _ _ j.extent ending does
+  buffered_job file (job.Compact j) ending does = copied file j.meta j.page_size j.kind j.extent ending does
   buffered_job file (job.Load j) ending does = elim does [
-    | inl (right, writes) ↦ inl (right, written _ (text_members file) _ (λ copy. done (lengths_line (length file) copy)) ending writes)
+    | inl (right, writes) ↦
+        inl (right, written j.kind j.page_size.bytes (text_members file) j.sequence (λ copy. done (lengths_line (length file) copy)) ending writes)
     | inr (fault, is, (same, target, ends)) ↦ inr (fault, is, (untouched same, target, ends))
   ]
   buffered_job file (job.EtcdRepair j) ending does = elim does [
-    | inl made ↦ inl (∥∥₁_map made (restored file j.meta j.page_size j.snapshot j.search ending))
+    | inl made ↦ inl (∥∥₁_map made (restored file j.meta j.page_size j.kind j.search ending))
     | inr (why, is, (same, target, ends)) ↦ inr (why, is, (untouched same, target, ends))
   ]
   buffered_job file j ending (answer, is, does, same) = (answer, is, does_buffered answer ending does, same)

@@ -11,10 +11,9 @@ pub use Rattle.bolt_commands.specs.Failures.{failure_line}
 pub use Rattle.bolt_format.specs.{Sinks.AppendsPrefix, declared.sink.Sink.Ghosts}
 pub use Rattle.bolt_job.specs.{declared.refusal.Refusal.TheVariants.Help, declared.refusal.Refusal.TheVariants.Version, CommandLine.Asks}
 pub use Rattle.bolt_job.specs.{Jobs.needs_metas_alone, Jobs.target_name}
-pub use Rattle.bolt_job.specs.{declared.choices.Extent.Extent, declared.job.Job.Job, declared.choices.MetaChoice.MetaChoice}
-pub use Rattle.bolt_job.specs.{declared.choices.PageSize.PageSize, declared.refusal.Refusal.Refusal}
+pub use Rattle.bolt_job.specs.{declared.choices.CopyKind.CopyKind, declared.choices.Extent.Extent, declared.choices.MetaChoice.MetaChoice}
+pub use Rattle.bolt_job.specs.{declared.choices.PageSize.PageSize, declared.job.Job.Job, declared.refusal.Refusal.Refusal}
 pub use Rattle.bolt_text.specs.{Lines.Text, LineMembers.text_members}
-pub use Rattle.bolt_layout.specs.{Copies.layout_of_listing, declared.Layout.Layout}
 pub use Rattle.bolt_tree.specs.Listing.{Member}
-pub use Rattle.std.proofs.{lemmas.Grind.common_steps, Math.Logic.∥∥₁_map}
+pub use Rattle.std.proofs.Math.Logic.{∥∥₁_map}
 pub use Rattle.std.specs.{Io.KnownBytes.Appends, Prelude.string_bytes}

@@ -5,7 +5,7 @@ use Rattle.std.proofs.Common.{refl, sym, ap, subst, rules, arith, ◌<◌}
 use Rattle.std.proofs.lemmas.List.{map_more}
 use Rattle.bolt_commands.proofs.Vocabulary.{AreEntries, Bucket, Checked, Failure, ForEntries, HasSoundTrees, HoldsIn, HoldsNone, IsBucketAt, IsErrAnd}
 use Rattle.bolt_commands.proofs.Vocabulary.{IsValueAt, Item, Key, LeadsTo, LeafElement, Path, Start, Value, bucket_checked, bucket_start, bytes_of}
-use Rattle.bolt_commands.proofs.Vocabulary.{drop_more, entries_of, held_down, held_up, length-append, map-append, meta_of, names_push, parents_of}
+use Rattle.bolt_commands.proofs.Vocabulary.{drop_more, entries_of, held_down, held_up, length-append, map-append, meta_of, names_push, path_above}
 use Rattle.bolt_commands.proofs.Vocabulary.{owned_path, props, root_start, start_of, take-append-drop, take-append_seam, ∥∥₁_elim, ∥∥₁_map}
 use Rattle.bolt_tree.proofs.Exports.{all_entries, checked_entries, held_once, held_or_none, item_known, named_once, named_or_none, names_no_further}
 use Rattle.bolt_tree.proofs.Exports.{start_known}
@@ -85,7 +85,7 @@ module _ {Z : Type 0} (path : List (Vec ℕ Z)) (i : ℕ) (part : Vec ℕ Z) (is
   parts_more = map_more bytes_in path i part within ∙ ap (λ (p : Vec ℕ Z). owned_path (take i path) ++ bytes_in p ∷ []) (sym is)
 
 -- all but the last
-pub parents_are : (parents : Path) (key : Key) → parents_of (parents ++ key ∷ []) ≡ parents
+pub parents_are : (parents : Path) (key : Key) → path_above (parents ++ key ∷ []) ≡ parents
 parents_are parents key =
     let one : length (parents ++ key ∷ []) - 1 ≡ length parents = let whole = length-append parents (key ∷ []) in omega (arith, whole) in
     ap (λ n. take n (parents ++ key ∷ [])) one ∙ take-append_seam parents (key ∷ [])
@@ -107,8 +107,8 @@ module _ (checked : Checked) where
     last_part : owned_path path ≡ owned_path parents ++ key.items ∷ []
     last_part = ap owned_path is ∙ map-append (λ (part : Vec ℕ Z). part.items) parents (key ∷ [])
 
-    parents_in : parents_of (owned_path path) ≡ owned_path parents
-    parents_in = ap parents_of last_part ∙ parents_are (owned_path parents) key.items
+    parents_in : path_above (owned_path path) ≡ owned_path parents
+    parents_in = ap path_above last_part ∙ parents_are (owned_path parents) key.items
 
     pub reason_named : {X : Type 0} (said : Failure) (result : Result X Failure)
         → (said ≡ failure.NoBucket) × ((bucket : Start) → LeadsIn checked (owned_path parents) bucket → ⊥)

@@ -1,7 +1,7 @@
 -- The copy of a listing, and what is then reported of it.
 use Rattle.std.proofs.Common.{◌≡◌, ◌∙◌, ℕ, List, Bool, Option, None, Some, Result, Ok, Err, inl, inr, length, map, refl, subst}
 use Rattle.bolt_commands.proofs.Vocabulary.{Answer, AreCopyFaults, BulkFault, CopiesTo, WritesAnswer, JobEnding, EndsCopy, Failure, FileFaults}
-use Rattle.bolt_commands.proofs.Vocabulary.{Ghosts, Member, WritesCopy, copied, copy_page_size, CompactsTo, CopiesListing, CopiesRead, IsOpened}
+use Rattle.bolt_commands.proofs.Vocabulary.{Ghosts, Member, WritesLayout, copied, copy_page_size, CompactsTo, CopiesListing, CopiesRead, IsOpened}
 use Rattle.bolt_commands.proofs.Vocabulary.{IsReadTo, copy_report, hash_refusal, LostView, OnOk, Contents, found_view, is_snapshot, contents_found}
 use Rattle.bolt_commands.proofs.Vocabulary.{contents_lost, contents_meta, HasGoodCopies, IsAskedBlueprint, Meta, layout_for, layout_of_listing}
 use Rattle.bolt_commands.proofs.Vocabulary.{blueprint_layout, failing, ∥∥₁_map}
@@ -45,7 +45,7 @@ pub copy_written : {O T : Type 0} (out : Ghosts O) {out_old out_new : O} {target
     {snapshot : Bool} (answer : ℕ → Answer)
     (count : ℕ) (ending : JobEnding) → CopiesTo target old new layout listing snapshot (Ok count)
     → WritesAnswer out.taken out.failed out_old out_new (answer count) ending
-    → WritesCopy out.taken out.failed out_old out_new target.taken target.failed old new snapshot listing layout answer ending
+    → WritesLayout out.taken out.failed out_old out_new target.taken target.failed old new snapshot listing layout answer ending
 copy_written out {out_old} {out_new} answer count ending copy does =
     let whole = copy.ends in
     inl (whole.small, copy.good, whole.all, whole.sound, subst (λ (n : ℕ). WritesAnswer out.taken out.failed out_old out_new (answer n) ending) whole.long does)
@@ -53,20 +53,20 @@ copy_written out {out_old} {out_new} answer count ending copy does =
 pub copy_stopped : {O T : Type 0} (out : Ghosts O) (out_old : O) {target : Ghosts T} {old new : T} {layout : List ℕ} {listing : List Member}
     {snapshot : Bool} (answer : ℕ → Answer)
     (fault : BulkFault) (ending : JobEnding) → CopiesTo target old new layout listing snapshot (Err fault) → ending ≡ Err (copied fault)
-    → WritesCopy out.taken out.failed out_old out_old target.taken target.failed old new snapshot listing layout answer ending
+    → WritesLayout out.taken out.failed out_old out_old target.taken target.failed old new snapshot listing layout answer ending
 copy_stopped out out_old answer fault ending copy is = inr (copied fault, copy.ends, refl, is)
 
 -- the copy of a listing, if its length or the failure is known
 module _ {O T : Type 0} (out : Ghosts O) (out_old : O) {target : Ghosts T} {old new : T} {layout : List ℕ} {listing : List Member} {snapshot : Bool}
     (answer : ℕ → Answer) (ending : JobEnding) where
   pub listing_failed : (why : Failure) → CopiesListing target old new layout listing snapshot (Err why) → ending ≡ Err why
-      → WritesCopy out.taken out.failed out_old out_old target.taken target.failed old new snapshot listing layout answer ending
+      → WritesLayout out.taken out.failed out_old out_old target.taken target.failed old new snapshot listing layout answer ending
   listing_failed why (Err fault, copy, same) ends = copy_stopped out out_old answer fault ending copy (ends ∙ same)
   listing_failed why (Ok count, copy, same) ends = absurd (cc)
 
   pub listing_done : {out_new : O} (count : ℕ) → CopiesListing target old new layout listing snapshot (Ok count)
       → WritesAnswer out.taken out.failed out_old out_new (answer count) ending
-      → WritesCopy out.taken out.failed out_old out_new target.taken target.failed old new snapshot listing layout answer ending
+      → WritesLayout out.taken out.failed out_old out_new target.taken target.failed old new snapshot listing layout answer ending
   listing_done count (Ok made, copy, same) does = let number : count ≡ made = (cc) in copy_written out answer made ending copy (rw number at does)
   listing_done count (Err fault, copy, same) does = absurd (cc)
 
@@ -75,7 +75,7 @@ module _ {O T : Type 0} (out : Ghosts O) (out_old : O) {target : Ghosts T} {old 
 -- its hash is wrong
 pub compact_refused : {O T : Type 0} (out : Ghosts O) (out_old : O) (target : Ghosts T) (old : T) (job : CompactJob) (file : List ℕ) (o : Contents)
     → IsOpened job.extent file job.meta o
-    → (faults : FileFaults) → AreCopyFaults job.extent (is_snapshot job.kind) file job.meta faults → (fault : SnapshotFault)
+    → (faults : FileFaults) → AreCopyFaults job.extent job.kind file job.meta faults → (fault : SnapshotFault)
     → hash_refusal job.extent faults.hash ≡ Some fault
     → CompactsTo out out_old out_old target old old job file (Err (Hash fault))
 compact_refused out out_old target old job file o to faults are fault is =
@@ -83,7 +83,7 @@ compact_refused out out_old target old job file o to faults are fault is =
     inl (meta, listing, lost, found, read, faults, are, rw is (refl, refl, refl))
 
 module _ {O T : Type 0} (out : Ghosts O) (out_old : O) {target : Ghosts T} {old new : T} (job : CompactJob) (file : List ℕ) (before after : Contents)
-    (faults : FileFaults) (are : AreCopyFaults job.extent (is_snapshot job.kind) file job.meta faults) (right : hash_refusal job.extent faults.hash ≡ None)
+    (faults : FileFaults) (are : AreCopyFaults job.extent job.kind file job.meta faults) (right : hash_refusal job.extent faults.hash ≡ None)
     (ending : JobEnding) where
   pub compact_failed : (why : Failure) → CopiesRead target old new job file before after (Err why) → ending ≡ Err why
       → CompactsTo out out_old out_old target old new job file ending

@@ -1,13 +1,14 @@
 -- What `list` prints of a file is loaded as the listing of the file.
-use Rattle.std.proofs.Common.{◌≡◌, ◌∙◌, ◌<◌, ℕ, Bool, List, [], ◌∷◌, Option, Ok, ap, arith, inl, inr, length, subst, sym}
+use Rattle.std.proofs.Common.{◌≡◌, ◌∙◌, ◌<◌, ℕ, List, [], ◌∷◌, Option, Ok, ap, arith, inl, inr, length, subst, sym}
 use Rattle.bolt_commands.proofs.Vocabulary.{Answer, JobEnding, Sound, HasSoundTrees, IsListedAnswer, IsListing, IsListingText, IsPrinted}
-use Rattle.bolt_commands.proofs.Vocabulary.{IsLoadFault, IsOfOneTree, IsReadUnder, Layout, Loads, LoadsListing, Member, Meta, MetaChoice, Rises}
+use Rattle.bolt_commands.proofs.Vocabulary.{IsLoadFault, IsOfOneTree, IsReadUnder, Loads, LoadsListing, Member, Meta, MetaChoice, Rises}
 use Rattle.bolt_commands.proofs.Vocabulary.{filter_all, listing_lines, member_cmp, not, part_below, listing_part_text, path_cmp, rest_from}
 use Rattle.bolt_commands.proofs.Vocabulary.{text_members}
 use Rattle.bolt_commands.proofs.ReadFiles.{read_trees}
 use Rattle.bolt_commands.specs.Answers.{Late}
 use Rattle.std.specs.Ordering.{is_lt}
 use Rattle.bolt_format.specs.Bytes.{IsBytes}
+use Rattle.bolt_job.specs.declared.choices.CopyKind.{CopyKind}
 use Rattle.bolt_load.specs.{ByteMembers.AreOfBytes, declared.load_fault.LineFault.LineFault, declared.load_fault.LineFault.TheVariants.CutOff}
 use Rattle.bolt_load.specs.declared.load_fault.LoadFault.TheVariants.{Line, Memory}
 use Rattle.bolt_text.specs.{Lines.Text, declared.forms.ListForm.TheVariants.Hex, ListLines.listing_text}
@@ -43,39 +44,39 @@ module _ (below : Below) where
   printed listing ending answer (inr (front, rest, parts, late, is)) good = absurd (let bad = rw is at good in cc)
 
   module _ {O T : Type 0} (out_taken : O → Option (List ℕ)) (out_failed : O → ℕ) (target_taken : T → Option (List ℕ)) (target_failed : T → ℕ) where
-    abbrev Told : List Member → List ℕ → Type 0
-    Told listing text = (out_old out_new : O) (target_old target_new : T) (page_size sequence : ℕ) (layout : Layout) (snapshot : Bool) (ending : JobEnding)
-        → Loads out_taken out_failed out_old out_new target_taken target_failed target_old target_new text page_size sequence layout snapshot ending
-        → LoadsListing out_taken out_failed out_old out_new target_taken target_failed target_old target_new listing text page_size sequence layout
-        snapshot ending
+    abbrev LoadsText : List Member → List ℕ → Type 0
+    LoadsText listing text = (out_old out_new : O) (target_old target_new : T) (page_size sequence : ℕ) (kind : CopyKind) (ending : JobEnding)
+        → Loads out_taken out_failed out_old out_new target_taken target_failed target_old target_new text page_size sequence kind ending
+        → LoadsListing out_taken out_failed out_old out_new target_taken target_failed target_old target_new listing text page_size sequence
+        kind ending
 
-    told : (member : Member) (listing : List Member) (text : List ℕ) → IsListingText text → text_members text ≡ member ∷ listing
-        → Told (member ∷ listing) text
-    told member listing text right same out_old out_new target_old target_new page_size sequence layout snapshot ending (inl (is, writes)) =
+    some_loads : (member : Member) (listing : List Member) (text : List ℕ) → IsListingText text → text_members text ≡ member ∷ listing
+        → LoadsText (member ∷ listing) text
+    some_loads member listing text right same out_old out_new target_old target_new page_size sequence kind ending (inl (is, writes)) =
         inl (rw same at writes)
-    told member listing text right same out_old out_new target_old target_new page_size sequence layout snapshot ending (inr (Memory, is, (out, target, ends))) =
+    some_loads member listing text right same out_old out_new target_old target_new page_size sequence kind ending (inr (Memory, is, (out, target, ends))) =
         inr (out, target, inl ends)
-    told member listing text right same out_old out_new target_old target_new page_size sequence layout snapshot ending (inr (Line number fault, is, (out, target, ends))) =
+    some_loads member listing text right same out_old out_new target_old target_new page_size sequence kind ending (inr (Line number fault, is, stops)) =
         absurd (below.no_fault text number fault right is)
 
-    told_none : Told [] (listing_text [])
-    told_none out_old out_new target_old target_new page_size sequence layout snapshot ending (inl (is, writes)) = absurd (below.no_listing is)
-    told_none out_old out_new target_old target_new page_size sequence layout snapshot ending (inr (Memory, is, (out, target, ends))) = (out, target, inr ends)
-    told_none out_old out_new target_old target_new page_size sequence layout snapshot ending (inr (Line number fault, is, (out, target, ends))) =
+    none_loads : LoadsText [] (listing_text [])
+    none_loads out_old out_new target_old target_new page_size sequence kind ending (inl (is, writes)) = absurd (below.no_listing is)
+    none_loads out_old out_new target_old target_new page_size sequence kind ending (inr (Memory, is, (out, target, ends))) = (out, target, inr ends)
+    none_loads out_old out_new target_old target_new page_size sequence kind ending (inr (Line number fault, is, (out, target, ends))) =
         let (line, cut) = below.no_text number fault is in (out, target, inl (rw (line, cut) at ends))
 
-    told_of : (listing : List Member) → IsOfOneTree listing → Rises member_cmp listing → AreOfBytes listing → Told listing (listing_text listing)
-    told_of [] one rises own = told_none
-    told_of (member ∷ listing) one rises own =
-        told member listing (listing_text (member ∷ listing)) (below.right (member ∷ listing) (omega arith) one rises own)
+    text_loads : (listing : List Member) → IsOfOneTree listing → Rises member_cmp listing → AreOfBytes listing → LoadsText listing (listing_text listing)
+    text_loads [] one rises own = none_loads
+    text_loads (member ∷ listing) one rises own =
+        some_loads member listing (listing_text (member ∷ listing)) (below.right (member ∷ listing) (omega arith) one rises own)
         (below.read_back (member ∷ listing) one rises own)
 
     pub listed_loads : (file : List ℕ) (choice : MetaChoice) (answer : Answer) → IsBytes file → IsListedAnswer Sound file choice Hex [] [] answer
         → answer.ending ≡ Ok 0
-        → (meta : Meta) × (listing : List Member) × IsReadUnder file choice meta × IsListing file meta listing × Told listing answer.out
+        → (meta : Meta) × (listing : List Member) × IsReadUnder file choice meta × IsListing file meta listing × LoadsText listing answer.out
     listed_loads file choice answer bytes (inl (meta, listing, lost, found, (under, lists, none, unfound), lacking, why, ended)) good =
         let one = below.one_tree file meta listing bytes (read_trees file choice meta under) lists in
         let own = below.of_bytes file meta listing bytes lists in
-        let loads = subst (Told listing) (sym (printed listing _ answer ended good)) (told_of listing one lists.rises own) in
+        let loads = subst (LoadsText listing) (sym (printed listing _ answer ended good)) (text_loads listing one lists.rises own) in
         (meta, listing, under, lists, loads)
     listed_loads file choice answer bytes (inr (why, unread, is)) good = absurd (let bad = rw is at good in cc)

@@ -1,12 +1,12 @@
 -- The answers of `check --all` and `check --lost-and-found`.
-use Rattle.std.proofs.Common.{◌≡◌, ◌≢◌, ◌∷◌, ℕ, List, [], true, false, inl, inr, map, refl, subst, sym}
-use Rattle.bolt_commands.proofs.Vocabulary.{all_lost, Answer, AnswersLost, AreGaps, Extent, Failure, ForGaps, ForLosses, Sound, FoundView}
-use Rattle.bolt_commands.proofs.Vocabulary.{IsMetaOf, IsSearchOf, IsUnopened, Losses, LossView}
+use Rattle.std.proofs.Common.{◌≡◌, ◌∷◌, ℕ, List, [], true, false, inl, inr, map, refl, subst, sym}
+use Rattle.bolt_commands.proofs.Vocabulary.{all_lost, Answer, AnswersLost, AreGaps, CheckFault, Failure, ForGaps, ForLosses, FoundView, IsFailureOf}
+use Rattle.bolt_commands.proofs.Vocabulary.{IsMetaOf, IsSearchOf, IsUnrecoverableUnder, Losses, LossView}
 use Rattle.bolt_commands.proofs.Vocabulary.{LostAndFound, LostView, Meta, PageGapView, everything, false≢true, found_view}
 use Rattle.bolt_commands.proofs.Vocabulary.{is_nothing, lost_and_found_answer, parts}
 use Rattle.bolt_commands.proofs.FoundAnswers.{are_pages}
 use Rattle.bolt_check.specs.declared.check_fault.CheckFault.TheVariants as check
-use Rattle.bolt_commands.specs.Private.Checks.{AnswersLosses, AnswersTo, AnswersWhole, unopened}
+use Rattle.bolt_commands.specs.Private.{Checks.AnswersLosses, Checks.AnswersWhole, Checks.unopened, Contents.IsUnsearched}
 use Rattle.bolt_commands.specs.declared.verdict.Checking.{Checking}
 use Rattle.bolt_job.specs.declared.choices.Extent.TheVariants.{FoundPages}
 use Rattle.bolt_recover.proofs.Exports.{has_gaps, no_gaps}
@@ -58,21 +58,15 @@ module _ (c : Checking) where
         answers,
       )
 
-  -- to any extent but the first
-  pub lost_answer : (extent : Extent) → extent ≢ Sound → (answer : Answer) → AnswersLosses c extent answer
-      → AnswersTo c extent answer
-  lost_answer Sound beyond answer is = absurd (beyond refl)
-  lost_answer Losses beyond answer is = is
-  lost_answer FoundPages beyond answer is = is
-
-  -- the file isn't opened
-  pub unopened_lost : (extent : Extent) (why : Failure) → extent ≢ Sound → IsUnopened extent c.input.file.now c.choice why
-      → AnswersLosses c extent (unopened c.faults why)
-  unopened_lost Sound why beyond is = absurd (beyond refl)
-  unopened_lost Losses why beyond (check.Open fault, none, is) = rw is (inr (inl (fault, none, refl)))
-  unopened_lost Losses why beyond (check.Structure x, (meta, under, loses), is) =
+  -- nothing is recovered, or the file isn't searched
+  pub unrecovered_lost : (fault : CheckFault) (why : Failure) → IsUnrecoverableUnder c.input.file.now c.choice fault → IsFailureOf fault why
+      → AnswersLosses c Losses (unopened c.faults why)
+  unrecovered_lost (check.Open fault) why none is = rw is (inr (inl (fault, none, refl)))
+  unrecovered_lost (check.Structure x) why (meta, under, loses) is =
       rw is (inl (meta, everything x, [], [], under, loses, no_gaps c.input.file.now meta x loses, refl, refl))
-  unopened_lost Losses why beyond (check.Accounts findings, none, is) = absurd none
-  unopened_lost Losses why beyond (check.Memory, none, is) = rw is (inr (inr (tt, refl)))
-  unopened_lost FoundPages why beyond (inl (fault, none, is)) = rw is (inr (inl (fault, none, refl)))
-  unopened_lost FoundPages why beyond (inr (meta, under, is)) = rw is (inr (inr ((meta, under), refl)))
+  unrecovered_lost (check.Accounts findings) why none is = absurd none
+  unrecovered_lost check.Memory why none is = rw is (inr (inr (tt, refl)))
+
+  pub unsearched_lost : (why : Failure) → IsUnsearched c.input.file.now c.choice why → AnswersLosses c FoundPages (unopened c.faults why)
+  unsearched_lost why (inl (fault, none, is)) = rw is (inr (inl (fault, none, refl)))
+  unsearched_lost why (inr (meta, under, is)) = rw is (inr (inr ((meta, under), refl)))

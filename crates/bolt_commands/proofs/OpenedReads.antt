@@ -1,11 +1,11 @@
 -- What is read of what was opened.
 use Rattle.std.proofs.Common.{◌≡◌, ℕ, List, [], Option, Some, inl, inr, map, refl}
 use Rattle.std.proofs.lemmas.List.Elements.{All-nil}
-use Rattle.bolt_commands.proofs.Vocabulary.{AreFoundTo, AreLosses, Checked, Extent, Failure, IsListing, IsMetaOf, IsOpened, IsReadTo, IsRecovered}
+use Rattle.bolt_commands.proofs.Vocabulary.{AreLosses, Checked, Extent, Failure, IsListing, IsOpened, IsReadTo, IsRecovered}
 use Rattle.bolt_commands.proofs.Vocabulary.{IsSalvaged, IsUnopened, IsUnreadTo, LossView, LostAndFound, Member, MetaChoice, All, FoundView}
 use Rattle.bolt_commands.proofs.Vocabulary.{IsFoundLeaf, LostView, Meta, Contents, all_lost, found_view, has_listing, hash_refusal, meta_of}
-use Rattle.bolt_commands.proofs.Vocabulary.{contents_found, contents_meta, parts, recovery_meta}
-use Rattle.bolt_commands.proofs.{FoundAnswers.are_leaves, FoundAnswers.are_pages, ReadFiles.read_trees}
+use Rattle.bolt_commands.proofs.Vocabulary.{contents_found, parts, recovery_meta}
+use Rattle.bolt_commands.proofs.{FoundAnswers.are_leaves, ReadFiles.read_trees}
 use Rattle.bolt_etcd.specs.declared.check.snapshot.SnapshotFault.{SnapshotFault}
 use Rattle.bolt_job.specs.declared.choices.Extent.TheVariants.{Losses, FoundPages, Sound}
 use Rattle.bolt_recover.specs.{Found.AreFound, declared.recover_fault.RecoverFault.TheVariants.Memory, declared.recovery.Recovery.Recovery}
@@ -35,20 +35,6 @@ refused_read extent file choice (contents.Sound checked) to hash fault is =
     let (listing, lists) = has_listing file (meta_of checked) (read_trees _ _ _ to.1.under) in (_, _, _, _, sound_read checked to lists)
 refused_read extent file choice (contents.Recovered recovery) to hash fault is = absurd (let none = rw to.0 at is in cc)
 refused_read extent file choice (contents.Searched both) to hash fault is = absurd (let none = rw to.0 at is in cc)
-
--- its meta is the one that is chosen
-pub opened_under : (extent : Extent) (file : List ℕ) (choice : MetaChoice) (o : Contents) → IsOpened extent file choice o
-    → IsMetaOf file choice (contents_meta o)
-opened_under extent file choice (contents.Sound checked) to = to.1.under.0
-opened_under extent file choice (contents.Recovered recovery) to = to.1.under.0
-opened_under extent file choice (contents.Searched both) to = to.1.under
-
--- what is found are all pages that are looked for
-pub found_opened : (extent : Extent) (file : List ℕ) (choice : MetaChoice) (o : Contents) → IsOpened extent file choice o
-    → AreFoundTo extent file (contents_meta o) (map found_view (contents_found o))
-found_opened extent file choice (contents.Sound checked) (to, of) = rw to refl
-found_opened extent file choice (contents.Recovered recovery) (to, of) = rw to refl
-found_opened extent file choice (contents.Searched both) (to, of) = rw to (are_pages file both.meta both.found.items of.found of.views)
 
 -- they are leaves
 pub found_leaves : (extent : Extent) (file : List ℕ) (choice : MetaChoice) (o : Contents) → IsOpened extent file choice o

@@ -6,7 +6,6 @@ use Rattle.bolt_commands.proofs.Vocabulary.{is_snapshot, layout_for, layout_of_l
 use Rattle.bolt_commands.proofs.CopyAnswers.{copy_asked, listing_done, listing_failed}
 use Rattle.bolt_bulk.specs.declared.blueprint.Blueprint.{Blueprint}
 use Rattle.bolt_job.specs.{MetaChoices.IsMetaOf, declared.choices.CopyKind.CopyKind, declared.choices.Extent.TheVariants.FoundPages}
-use Rattle.bolt_layout.specs.declared.Layout.TheVariants.{Balanced}
 use Rattle.bolt_recover.specs.Lost.{IsAllLost}
 use Rattle.bolt_repair.specs.{FullRepairs.IsFullRepair, RepairedMerges.repair_back, RepairedMerges.repair_made, RepairedMerges.repair_unread}
 use Rattle.bolt_repair.specs.{Readable.unread, Repaired.HasStore, Repaired.IsRepaired, Repaired.repaired_listing, declared.repair.Repair.Repair}
@@ -19,14 +18,6 @@ pub unsearched_unrestored : (file : List ℕ) (choice : MetaChoice) (why : Failu
     → IsUnrestored file choice search why
 unsearched_unrestored file choice why (inl none) search = inr none
 unsearched_unrestored file choice why (inr (meta, under, is)) search = inl (meta, Memory, under, tt, is)
-
--- the copy of the blueprint that is asked for, which is for bbolt
-listing_asked : {T : Type 0} {target : Ghosts T} {old new : T} {listing : List Member} {snapshot : Bool} (kind : CopyKind) (size : Option PageSize)
-    (meta : Meta) (blueprint : Blueprint) (result : Result ℕ Failure)
-    → layout_for kind ≡ Balanced → IsAskedBlueprint kind size meta blueprint
-    → CopiesListing target old new (blueprint_layout blueprint listing) listing snapshot result
-    → CopiesListing target old new (layout_of_listing Balanced (copy_page_size size meta) listing meta.root_sequence) listing snapshot result
-listing_asked kind size meta blueprint result layout asked (made, copy, same) = (made, rw layout at (copy_asked asked copy), same)
 
 -- The repair of a file that was searched. It names the file and its meta in its own way.
 module _ (file : List ℕ) (choice : MetaChoice) (search : Bool) (both : LostAndFound) (repair : Repair) (own : List ℕ) (meta : Meta)
@@ -60,19 +51,19 @@ module _ (file : List ℕ) (choice : MetaChoice) (search : Bool) (both : LostAnd
       }))
 
   -- its copy is whole and reported, or it isn't whole and nothing is
-  module _ {O T : Type 0} (out : Ghosts O) (out_old : O) {target : Ghosts T} {old new : T} (kind : CopyKind) (size : Option PageSize) (snapshot : Bool)
-      (blueprint : Blueprint)
-      (same_kind : is_snapshot kind ≡ snapshot) (layout : layout_for kind ≡ Balanced) (asked : IsAskedBlueprint kind size both.meta blueprint)
-      (faults : FileFaults) (are : AreCopyFaults FoundPages snapshot file choice faults) (ending : JobEnding) where
+  module _ {O T : Type 0} (out : Ghosts O) (out_old : O) {target : Ghosts T} {old new : T} (kind : CopyKind) (size : Option PageSize)
+      (blueprint : Blueprint) (asked : IsAskedBlueprint kind size both.meta blueprint)
+      (faults : FileFaults) (are : AreCopyFaults FoundPages kind file choice faults) (ending : JobEnding) where
+    -- the copy of the blueprint that is asked for
     copy_of_repaired : (result : Result ℕ Failure)
         → CopiesListing target old new (blueprint_layout blueprint the_repaired) the_repaired (is_snapshot kind) result
-        → CopiesListing target old new (layout_of_listing Balanced (copy_page_size size both.meta) the_repaired both.meta.root_sequence) the_repaired
-        snapshot result
-    copy_of_repaired result copy = listing_asked kind size both.meta blueprint result layout asked (rw same_kind at copy)
+        → CopiesListing target old new (layout_of_listing (layout_for kind) (copy_page_size size both.meta) the_repaired both.meta.root_sequence)
+        the_repaired (is_snapshot kind) result
+    copy_of_repaired result (made, copy, same) = (made, copy_asked asked copy, same)
 
     pub repair_failed : (why : Failure)
         → CopiesListing target old new (blueprint_layout blueprint the_repaired) the_repaired (is_snapshot kind) (Err why) → ending ≡ Err why
-        → WritesRestored out.taken out.failed out_old out_old target.taken target.failed old new file choice size snapshot search ending
+        → WritesRestored out.taken out.failed out_old out_old target.taken target.failed old new file choice size kind search ending
     repair_failed why copy ends =
         let report = repair_report faults (all_lost both) (repair_unread repair) back repair.left_out (length file) in (
           both.meta,
@@ -91,7 +82,7 @@ module _ (file : List ℕ) (choice : MetaChoice) (search : Bool) (both : LostAnd
         → CopiesListing target old new (blueprint_layout blueprint the_repaired) the_repaired (is_snapshot kind) (Ok count)
         → WritesAnswer out.taken out.failed out_old out_new
         (repair_report faults (all_lost both) (repair_unread repair) back repair.left_out (length file) count) ending
-        → WritesRestored out.taken out.failed out_old out_new target.taken target.failed old new file choice size snapshot search ending
+        → WritesRestored out.taken out.failed out_old out_new target.taken target.failed old new file choice size kind search ending
     repair_done count copy does =
         let report = repair_report faults (all_lost both) (repair_unread repair) back repair.left_out (length file) in (
           both.meta,

@@ -4,7 +4,7 @@ use Rattle.std.proofs.Common.{length, refl, subst, take}
 use Rattle.bolt_commands.proofs.Vocabulary.{Active, Answer, CheckFault, Contains, Failure, HasSoundTrees, HoldsIn, HoldsNone, Holds, IsEntriesAnswer}
 use Rattle.bolt_commands.proofs.Vocabulary.{IsEntry, IsFailureOf, IsListing, IsMetaOf, IsReadAnswer, Key, LeadsTo, LeafElement, Member, Meta}
 use Rattle.bolt_commands.proofs.Vocabulary.{MetaChoice, Names, Path, Root_page, Shortfall, Start, Value, has_bucket, has_listing, item_of, keys_text}
-use Rattle.bolt_commands.proofs.Vocabulary.{parents_of, owned_path, props, refused, start_of, ∥∥₁_elim}
+use Rattle.bolt_commands.proofs.Vocabulary.{path_above, owned_path, props, refused, start_of, ∥∥₁_elim}
 use Rattle.bolt_commands.proofs.{EntryNames.names_are_keys, ListedBuckets.has_named, ListedBuckets.named_has, ListedBuckets.none_named}
 use Rattle.bolt_commands.proofs.{ReadFiles.read_meta}
 use Rattle.bolt_commands.proofs.{SoundReads.keeps_root, SoundReads.unread, SoundReads.unrecovered, OtherMetas.no_hidden, OtherMetas.none_hidden}
@@ -71,7 +71,7 @@ held_parent Entry from key (next ∷ path) value (e, is, k, b, held) =
     (bucket, (e, is, k, b, names))
 
 parent_of : (file : List ℕ) (meta : Meta) (path : Path) (value : List ℕ) → HoldsIn file meta path (Value value)
-    → (bucket : Start) × LeadsTo file meta (parents_of path) bucket
+    → (bucket : Start) × LeadsTo file meta (path_above path) bucket
 parent_of file meta [] value held = absurd held
 parent_of file meta (key ∷ path) value held =
     let one : length (key ∷ path) - 1 ≡ length path = omega arith in
@@ -82,13 +82,13 @@ module _ (file : List ℕ) (meta : Meta) (listing : List Member) (lists : IsList
   IsWhy path reason = HoldsNone file path meta reason
 
   why_there : (path : Path) → ((value : List ℕ) → Contains listing (path, Value value) → ⊥) → (has : Bool)
-      → has_bucket (parents_of path) listing ≡ has
+      → has_bucket (path_above path) listing ≡ has
       → IsWhy path (no_value path listing None)
   why_there path none true e =
-      let (bucket, leads) = named_has file meta listing lists (parents_of path) e in
+      let (bucket, leads) = named_has file meta listing lists (path_above path) e in
       rw e (inl (refl, (λ value held. none value ((lists.exact path (Value value)).1 held)), (bucket, ∣ leads ∣₁)))
   why_there path none false e =
-      rw e (inr (refl, λ bucket leads. (let has = has_named file meta listing lists (parents_of path) bucket leads in cc)))
+      rw e (inr (refl, λ bucket leads. (let has = has_named file meta listing lists (path_above path) bucket leads in cc)))
 
   has_led : (path : Path) (bucket : Start) → ∥ LeadsTo file meta path bucket ∥₁ → has_bucket path listing ≡ true
   has_led path bucket known = ∥∥₁_elim known (hlevel props) (has_named file meta listing lists path bucket)
@@ -96,17 +96,17 @@ module _ (file : List ℕ) (meta : Meta) (listing : List Member) (lists : IsList
   why_back : (path : Path) (reason : Failure) → IsWhy path reason
       → ((value : List ℕ) → Contains listing (path, Value value) → ⊥) × (reason ≡ no_value path listing None)
   why_back path reason (inl (no_key, none, (bucket, known))) =
-      ((λ value has. none value ((lists.exact path (Value value)).0 has)), rw (has_led (parents_of path) bucket known) no_key)
+      ((λ value has. none value ((lists.exact path (Value value)).0 has)), rw (has_led (path_above path) bucket known) no_key)
   why_back path reason (inr (no_bucket, nowhere)) = (
     (λ value has. let (bucket, leads) = parent_of file meta path value ((lists.exact path (Value value)).0 has) in nowhere bucket leads),
-    rw (none_named file meta listing lists (parents_of path) nowhere) no_bucket,
+    rw (none_named file meta listing lists (path_above path) nowhere) no_bucket,
   )
 
   value_there : (job : GetJob) (answer : Answer) → IsRecoveredValue job listing None answer → IsGetAnswer file job meta answer
   value_there job answer (inl (value, has, shown)) = inl (value, (lists.exact (owned_path job.path.items) (Value value)).0 has, shown)
   value_there job answer (inr (none, is)) =
       let path = owned_path job.path.items in
-      inr (no_value path listing None, why_there path none (has_bucket (parents_of path) listing) refl, is)
+      inr (no_value path listing None, why_there path none (has_bucket (path_above path) listing) refl, is)
 
   value_back : (job : GetJob) (answer : Answer) → IsGetAnswer file job meta answer → IsRecoveredValue job listing None answer
   value_back job answer (inl (value, held, shown)) = inl (value, (lists.exact (owned_path job.path.items) (Value value)).1 held, shown)

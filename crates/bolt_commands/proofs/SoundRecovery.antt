@@ -4,16 +4,16 @@ use Rattle.std.proofs.Common.{◌≡◌, ◌≢◌, ◌↔◌, ◌*◌, ◌<◌,
 use Rattle.std.proofs.Common.{◌∙◌}
 use Rattle.bolt_commands.proofs.Vocabulary.{Active, Answer, AreLosses, Assumed, CheckFault, JobEnding, Extent, Failure, Sound, FoundView}
 use Rattle.bolt_commands.proofs.Vocabulary.{HasSoundTrees, InSlot, IsActive, IsFailureOf, IsInSlot, IsListedAnswer, IsListing, IsMetaOf, IsMetasFault}
-use Rattle.bolt_commands.proofs.Vocabulary.{IsReadTo, IsReadUnder, IsRecovered, IsSalvaged, IsUnreadTo, Layout, ListForm, LossView, Losses, LostView}
+use Rattle.bolt_commands.proofs.Vocabulary.{IsReadTo, IsReadUnder, IsRecovered, IsSalvaged, IsUnreadTo, ListForm, LossView, Losses, LostView}
 use Rattle.bolt_commands.proofs.Vocabulary.{MakesCopy, Member, Meta, MetaChoice, OtherMeta, PageSize, Path, Slot, bad_hash, everything, has_losses}
-use Rattle.bolt_commands.proofs.Vocabulary.{hash_refusal, parts, props, unlisted, ∥∥₁_elim}
+use Rattle.bolt_commands.proofs.Vocabulary.{hash_refusal, is_snapshot, parts, props, unlisted, ∥∥₁_elim}
 use Rattle.bolt_check.specs.declared.check_fault.CheckFault.TheVariants as check
 use Rattle.bolt_commands.specs.declared.failure.Failure.TheVariants as failure
 use Rattle.bolt_commands.proofs.OtherMetas.{found_metas, metas_found, no_hidden, none_hidden}
 use Rattle.bolt_commands.specs.Alike.{HidesNoState}
 use Rattle.bolt_commands.proofs.{ReadFiles.no_accounts, ReadFiles.read_meta, SoundReads.NamesOne, SoundReads.has_meta, SoundReads.keeps_not_loses}
 use Rattle.bolt_commands.proofs.{SoundReads.keeps_root, SoundReads.unread, SoundReads.unrecovered}
-use Rattle.bolt_job.specs.declared.choices.Extent.TheVariants.{FoundPages}
+use Rattle.bolt_job.specs.{declared.choices.CopyKind.CopyKind, declared.choices.Extent.TheVariants.FoundPages}
 use Rattle.bolt_recover.specs.{Found.AreFound, JoinRefusals.IsJoinRefusal, Lost.IsAllLost, declared.recover_fault.RecoverFault.RecoverFault}
 use Rattle.bolt_recover.specs.declared.recover_fault.RecoverFault.TheVariants as recover
 use Rattle.bolt_repair.specs.{Readable.readable, Repaired.IsRepaired, Repaired.MakesMeta, Repairs.meta_path}
@@ -64,10 +64,11 @@ module _ {file : List ℕ} {meta : Meta} {from to : Extent} {wanted named : Meta
   listed r form path start answer (inr (why, unread, is)) = inr (why, r.unread why unread, is)
 
   module _ {O T : Type 0} (out_taken : O → Option (List ℕ)) (out_failed : O → ℕ) (target_taken : T → Option (List ℕ)) (target_failed : T → ℕ)
-      (out_old out_new : O) (target_old target_new : T) (size : Option PageSize) (which : Layout) (snapshot : Bool) (ending : JobEnding) where
-    copied : Reads file meta from to wanted named → hash_refusal from (bad_hash snapshot file) ≡ hash_refusal to (bad_hash snapshot file)
-        → MakesCopy out_taken out_failed out_old out_new target_taken target_failed target_old target_new file wanted size which snapshot from ending
-        → MakesCopy out_taken out_failed out_old out_new target_taken target_failed target_old target_new file named size which snapshot to ending
+      (out_old out_new : O) (target_old target_new : T) (size : Option PageSize) (kind : CopyKind) (ending : JobEnding) where
+    copied : Reads file meta from to wanted named
+        → hash_refusal from (bad_hash (is_snapshot kind) file) ≡ hash_refusal to (bad_hash (is_snapshot kind) file)
+        → MakesCopy out_taken out_failed out_old out_new target_taken target_failed target_old target_new file wanted size kind from ending
+        → MakesCopy out_taken out_failed out_old out_new target_taken target_failed target_old target_new file named size kind to ending
     copied r same (inl (other, listing, lost, found, read, faults, are, writes)) = grind arith
     copied r same (inr (why, unread, none)) = inr (why, r.unread why unread, none)
 
@@ -201,8 +202,8 @@ lists_the_same r form path start answer = (listed r.there form path start answer
 
 pub copies_the_same : {file : List ℕ} {meta : Meta} {from to : Extent} {wanted named : MetaChoice} → ReadsAlike file meta from to wanted named
     → {O T : Type 0} (out_taken : O → Option (List ℕ)) (out_failed : O → ℕ) (target_taken : T → Option (List ℕ)) (target_failed : T → ℕ)
-    (out_old out_new : O) (target_old target_new : T) (size : Option PageSize) (which : Layout) (snapshot : Bool) (ending : JobEnding)
-    → hash_refusal from (bad_hash snapshot file) ≡ hash_refusal to (bad_hash snapshot file)
-    → MakesCopy out_taken out_failed out_old out_new target_taken target_failed target_old target_new file wanted size which snapshot from ending
-    ↔ MakesCopy out_taken out_failed out_old out_new target_taken target_failed target_old target_new file named size which snapshot to ending
-copies_the_same r out_taken out_failed target_taken target_failed out_old out_new target_old target_new size which snapshot ending same = grind arith
+    (out_old out_new : O) (target_old target_new : T) (size : Option PageSize) (kind : CopyKind) (ending : JobEnding)
+    → hash_refusal from (bad_hash (is_snapshot kind) file) ≡ hash_refusal to (bad_hash (is_snapshot kind) file)
+    → MakesCopy out_taken out_failed out_old out_new target_taken target_failed target_old target_new file wanted size kind from ending
+    ↔ MakesCopy out_taken out_failed out_old out_new target_taken target_failed target_old target_new file named size kind to ending
+copies_the_same r out_taken out_failed target_taken target_failed out_old out_new target_old target_new size kind ending same = grind arith

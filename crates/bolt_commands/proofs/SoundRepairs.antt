@@ -6,7 +6,7 @@ use Rattle.bolt_commands.proofs.{SoundReads.has_meta, SoundReads.keeps_not_loses
 use Rattle.bolt_commands.proofs.{SoundRecovery.no_losses}
 use Rattle.bolt_check.specs.Keys.{Key}
 use Rattle.bolt_format.specs.Elements.{LeafElement}
-use Rattle.bolt_etcd.specs.Wire.Others.{OtherView}
+use Rattle.bolt_etcd.specs.Wire.UnreadEntries.{UnreadView}
 use Rattle.bolt_recover.proofs.Exports.{one_recovered}
 use Rattle.bolt_recover.specs.Found.{AreFound}
 use Rattle.bolt_tree.specs.Entries.{EntryView, Value}
@@ -31,8 +31,8 @@ none_counted recovered found back left_out none (keys, are, number) =
     (omega (arith, number, empty), omega (arith, number, empty))
 
 -- what is so of a repair is so of the same listing, losses, entries and counts
-pub same_repair : (P : List Member → LostView → List OtherView → (back left_out : ℕ) → Type 0) {a b : List Member} {l m : LostView}
-    {o p : List OtherView} {i j n k : ℕ}
+pub same_repair : (P : List Member → LostView → List UnreadView → (back left_out : ℕ) → Type 0) {a b : List Member} {l m : LostView}
+    {o p : List UnreadView} {i j n k : ℕ}
     → a ≡ b → o ≡ p → l ≡ m → i ≡ j → n ≡ k → P a l o i n → P b m p j k
 same_repair P listing others lost back left_out holds = rw (listing, others, lost, back, left_out) at holds
 
@@ -40,7 +40,7 @@ module _ (b : Below) (file : List ℕ) (meta : Meta) (trees : HasSoundTrees file
   none_found : (found : List ℕ) → AreFound file meta found → elements_on file meta found ≡ []
   none_found found are = ap (elements_on file meta) (b.none_found file meta found (no_losses b file meta trees) are)
 
-  pub none_restored : (choice : MetaChoice) (listing : List Member) (lost : LostView) (others : List OtherView) (back left_out : ℕ)
+  pub none_restored : (choice : MetaChoice) (listing : List Member) (lost : LostView) (others : List UnreadView) (back left_out : ℕ)
       → IsRestored file choice false meta listing lost others back left_out
       → (own : List Member) × IsListing file meta own × (is_made : Bool) × MakesMeta own is_made × (listing ≡ read_listing is_made own)
       × (others ≡ unread own) × (lost ≡ parts []) × (back ≡ 0) × (left_out ≡ 0)

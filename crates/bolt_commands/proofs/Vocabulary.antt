@@ -8,13 +8,12 @@ pub use Rattle.bolt_check.specs.{Sound.HasRightAccounts, Sound.HasSoundTrees, So
 pub use Rattle.bolt_check.specs.{declared.checked.Checked.Checked}
 pub use Rattle.bolt_check.specs.{declared.check_fault.CheckFault.CheckFault, declared.finding.Finding.Finding}
 pub use Rattle.bolt_commands.specs.Answers.{Answer, JobEnding, WritesAnswer, IsPrinted, done, refused}
-pub use Rattle.bolt_commands.specs.CheckAnswers.{AnswersLost, IsCheckAnswer, IsCheckAnswerAfter, IsFindingsAnswer, IsLostAnswer, MayRunOut}
-pub use Rattle.bolt_commands.specs.CheckAnswers.{check_refusal, findings_answer, lost_and_found_answer, sound_answer}
-pub use Rattle.bolt_commands.specs.FilesRead.{AreFoundPages, AreFoundTo, HoldsIn, IsFileRefusal, IsReadAnswer, IsReadUnder, IsReadTo}
+pub use Rattle.bolt_commands.specs.CheckAnswers.{AnswersLost, IsCheckAnswer, IsCheckAnswerAfter, IsFindingsAnswer, IsLostAnswer}
+pub use Rattle.bolt_commands.specs.CheckAnswers.{check_refusal, findings_answer, lost_and_found_answer}
+pub use Rattle.bolt_commands.specs.FilesRead.{AreFoundPages, HoldsIn, IsReadAnswer, IsReadUnder, IsReadTo}
 pub use Rattle.bolt_commands.specs.FilesRead.{IsRecoveredUnder, IsRefusedUnder, IsSalvaged, IsUnreadTo, IsUnrecoverableUnder, LeadsTo}
 pub use Rattle.bolt_commands.specs.FilesRead.{counts_accounts, found_page, shortfall_ending}
-pub use Rattle.bolt_report.specs.AtPaths.{parents_of}
-pub use Rattle.bolt_commands.specs.JobAnswers.{DoesJob, Loads, LoadsListing, MakesCopy, WritesCopy}
+pub use Rattle.bolt_commands.specs.JobAnswers.{DoesJob, Loads, LoadsListing, MakesCopy, WritesLayout}
 pub use Rattle.bolt_commands.specs.KeyAnswers.{HoldsNone, IsEntriesAnswer, IsSizesAnswer, value_shown}
 pub use Rattle.bolt_commands.specs.StatsAnswers.{AddsEntry, HasStats, IsStatsAnswer, IsTotal, no_stats}
 pub use Rattle.bolt_commands.specs.{ListAnswers.IsListPrint, ListAnswers.IsListedAnswer, ListAnswers.listing_part_text, ListAnswers.part_ending}
@@ -25,7 +24,6 @@ pub use Rattle.bolt_commands.specs.{FileFaults.AreCopyFaults, FileFaults.IsMetas
 pub use Rattle.bolt_commands.specs.{FileFaults.other_meta_lines, Shortfalls.shortfall}
 pub use Rattle.bolt_commands.specs.{declared.shortfall.Shortfall.Shortfall, GoodCopies.HasGoodCopies, GoodCopies.IsGoodCopy, GoodCopies.RefusesFile}
 pub use Rattle.bolt_commands.specs.Private.Copying.{CompactsTo, CopiesJoined, CopiesListing, CopiesRead, CopiesTo, IsAskedBlueprint, blueprint_layout}
-pub use Rattle.bolt_commands.specs.Private.Copying.{job_layout}
 pub use Rattle.bolt_commands.specs.Private.Endings.{MayFail, ending_by, end_written, failing}
 pub use Rattle.bolt_commands.specs.Private.Contents.{HasNoBucket, IsOpenedBucket, IsJoinedOf, IsOpened, IsRecoveryOf, IsSearchOf, IsSoundOf, IsUnopened}
 pub use Rattle.bolt_commands.specs.Private.Contents.{IsUnread, contents_found, contents_lost, contents_meta}
@@ -34,7 +32,7 @@ pub use Rattle.bolt_commands.specs.{Hashes.HashesSince, declared.failure.Failure
 pub use Rattle.bolt_commands.specs.{declared.file_faults.FileFaults.FileFaults, declared.opening.Contents.Contents, declared.other_meta.OtherMeta.OtherMeta}
 pub use Rattle.bolt_commands.specs.Private.Printing.{PrintsAnswer, PutsJoined, PutsListing, PutsPart, finds, job_part, sound_part}
 pub use Rattle.bolt_commands.specs.CopyLayouts.{layout_for}
-pub use Rattle.bolt_format.proofs.Exports.{AppendsProperPrefix-first, AppendsProperPrefix-second, Wrote-ends, Wrote-none, Wrote-return, Wrote-same}
+pub use Rattle.bolt_format.proofs.Exports.{AppendsProperPrefix-first, AppendsProperPrefix-second, Wrote-ends, Wrote-none, Wrote-return}
 pub use Rattle.bolt_format.proofs.Exports.{Wrote-stop, Wrote-then, broken_by}
 pub use Rattle.bolt_format.specs.Elements.{LeafElement, head_sequence}
 pub use Rattle.bolt_format.specs.Metas.{HasBothMetas, HasMetaFault, HasSlotFault, IsActive, IsInSlot, IsMeta, IsPageSize, page_size_count, page_sizes}
@@ -76,7 +74,7 @@ pub use Rattle.bolt_tree.specs.{EntriesLeft.ForEntries, EntriesLeft.entries_left
 pub use Rattle.bolt_tree.specs.Listing.{IsListing, Member, member_cmp, rest_from}
 pub use Rattle.bolt_tree.specs.{ListingParts.has_bucket, ListingParts.is_bucket, ListingParts.is_bucket_at, ListingParts.part_below}
 pub use Rattle.bolt_tree.specs.{Lookups.IsBucketAt, Lookups.IsValueAt}
-pub use Rattle.bolt_tree.specs.{Paths.Holds, Paths.Names, Paths.Path, Paths.path_cmp, Paths.path_of, BucketViews.entries_of}
+pub use Rattle.bolt_tree.specs.{Paths.Holds, Paths.Names, Paths.Path, Paths.path_above, Paths.path_cmp, Paths.path_of, BucketViews.entries_of}
 pub use Rattle.bolt_tree.specs.{declared.bucket.Bucket.Bucket}
 pub use Rattle.sha2.proofs.Facts256.{length-sha256}
 pub use Rattle.sha2.specs.{Hashers.Holds256, Sha256.sha256, declared.Sha256.Sha256}

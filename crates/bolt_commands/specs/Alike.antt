@@ -2,7 +2,6 @@
 use Rattle.std.specs.Prelude.{◌≡◌, ◌≢◌, ◌↔◌, ◌⊎◌, ◌*◌, ◌<◌, ◌^◌, ℕ, Bool, true, false, Err, List, [], Option, length}
 use Rattle.bolt_check.specs.Sound.{HasSoundTrees}
 use Rattle.bolt_format.specs.{Metas.HasBothMetas, declared.meta.Meta.Meta, declared.sink.Sink.Ghosts}
-use Rattle.bolt_layout.specs.{Copies.layout_of_listing, declared.Layout.Layout, declared.Layout.TheVariants.Balanced}
 use Rattle.bolt_repair.specs.{Readable.readable, Readable.unread, Repaired.MakesMeta, Repairs.meta_path, Repairs.store_path}
 use Rattle.bolt_recover.specs.Losses.{parts}
 use Rattle.bolt_text.specs.declared.forms.ListForm.{ListForm}
@@ -14,7 +13,7 @@ use Rattle.bolt_commands.specs.{RepairAnswers.repair_report}
 use Rattle.bolt_commands.specs.{FileFaults.AreCopyFaults, SnapshotAnswers.bad_hash, declared.file_faults.FileFaults.FileFaults}
 use Rattle.bolt_commands.specs.{declared.failure.Failure.Failure, declared.failure.Failure.TheVariants.Memory}
 use Rattle.bolt_commands.specs.{declared.failure.Failure.TheVariants.NoBucket, declared.failure.Failure.TheVariants.NotABucket}
-use Rattle.bolt_job.specs.MetaChoices.{IsMetaOf}
+use Rattle.bolt_job.specs.{CopyKinds.is_snapshot, MetaChoices.IsMetaOf, declared.choices.CopyKind.CopyKind}
 use Rattle.bolt_job.specs.declared.bucket_commands.{BucketsJob.BucketsJob, GetJob.GetJob, KeysJob.KeysJob}
 use Rattle.bolt_job.specs.declared.choices.BucketsShown.TheVariants.{Names}
 use Rattle.bolt_job.specs.{declared.job.Job.Job, declared.choices.Extent.TheVariants.FoundPages}
@@ -57,10 +56,10 @@ ListsAlike one other file wanted named = (form : ListForm) (path from : Path) (a
 -- `compact` does the same to one extent under one choice as to the other under the other, if both extents refuse a wrong hash, or neither
 abbrev pub CopiesAlike : {O T : Type 0} (out : Ghosts O) (target : Ghosts T) → (one other : Extent) → List ℕ → (wanted named : MetaChoice) → Type 0
 CopiesAlike {O} {T} out target one other file wanted named =
-    (out_old out_new : O) (target_old target_new : T) (size : Option PageSize) (layout : Layout) (snapshot : Bool) (ending : JobEnding)
-    → hash_refusal one (bad_hash snapshot file) ≡ hash_refusal other (bad_hash snapshot file)
-    → MakesCopy out.taken out.failed out_old out_new target.taken target.failed target_old target_new file wanted size layout snapshot one ending
-    ↔ MakesCopy out.taken out.failed out_old out_new target.taken target.failed target_old target_new file named size layout snapshot other ending
+    (out_old out_new : O) (target_old target_new : T) (size : Option PageSize) (kind : CopyKind) (ending : JobEnding)
+    → hash_refusal one (bad_hash (is_snapshot kind) file) ≡ hash_refusal other (bad_hash (is_snapshot kind) file)
+    → MakesCopy out.taken out.failed out_old out_new target.taken target.failed target_old target_new file wanted size kind one ending
+    ↔ MakesCopy out.taken out.failed out_old out_new target.taken target.failed target_old target_new file named size kind other ending
 
 -- `keys`, `buckets` and `get` print with `--recover` what they print without it; of the first two, unless memory runs out
 abbrev pub KeysAlike : List ℕ → (wanted named : MetaChoice) → Type 0
@@ -86,16 +85,14 @@ IsUnrepairable file meta why =
 abbrev pub read_listing : (is_made : Bool) → List Member → List Member
 read_listing is_made listing = merge (readable listing) (members_in is_made meta_path [])
 
--- Nothing goes back or stays out: The copy is that of what etcd can read of the file's own listing, for bbolt, with a bucket `meta`.
+-- Nothing goes back or stays out: The copy is that of what etcd can read of the file's own listing, with a bucket `meta`.
 abbrev pub RepairsNothing : {O T : Type 0} (out : Ghosts O) (target : Ghosts T) → List ℕ → Meta → MetaChoice → Type 0
 RepairsNothing {O} {T} out target file meta choice =
-    (out_old out_new : O) (target_old target_new : T) (size : Option PageSize) (snapshot : Bool) (ending : JobEnding)
-    → MakesRepair out.taken out.failed out_old out_new target.taken target.failed target_old target_new file choice size snapshot false ending
+    (out_old out_new : O) (target_old target_new : T) (size : Option PageSize) (kind : CopyKind) (ending : JobEnding)
+    → MakesRepair out.taken out.failed out_old out_new target.taken target.failed target_old target_new file choice size kind false ending
     → ∥ ((listing : List Member) × IsListing file meta listing × (is_made : Bool) × MakesMeta listing is_made × (faults : FileFaults)
-    × AreCopyFaults FoundPages snapshot file choice faults
-    × WritesCopy out.taken out.failed out_old out_new target.taken target.failed target_old target_new snapshot (read_listing is_made listing)
-    (layout_of_listing Balanced (copy_page_size size meta) (read_listing is_made listing) meta.root_sequence)
-    (repair_report faults (parts []) (unread listing) 0 0 (length file))
-    ending) ∥₁
+    × AreCopyFaults FoundPages kind file choice faults
+    × WritesCopy out.taken out.failed out_old out_new target.taken target.failed target_old target_new kind (copy_page_size size meta)
+    (read_listing is_made listing) meta.root_sequence (repair_report faults (parts []) (unread listing) 0 0 (length file)) ending) ∥₁
     ⊎ ((why : Failure) × IsUnrepairable file meta why
     × WritesNone out.taken out.failed out_old out_new target.taken target.failed target_old target_new why ending)

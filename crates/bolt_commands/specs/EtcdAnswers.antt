@@ -15,9 +15,9 @@ use Rattle.bolt_etcd.specs.{Store.Stores.others, Store.Stores.revisions}
 use Rattle.bolt_etcd.specs.Store.BucketNames.{key_bucket}
 use Rattle.std.specs.{Int.to_be_bytes, Int.w64, List.concat}
 use Rattle.bolt_job.specs.declared.{choices.Extent.TheVariants.Losses, choices.MetaChoice.MetaChoice}
-use Rattle.bolt_job.specs.{declared.etcd_jobs.EtcdCheckJob.EtcdCheckJob, declared.etcd_jobs.EtcdGetJob.EtcdGetJob}
-use Rattle.bolt_job.specs.{declared.etcd_jobs.EtcdKeysJob.EtcdKeysJob}
-use Rattle.bolt_job.specs.{declared.etcd_jobs.EtcdRevisionsJob.EtcdRevisionsJob, declared.etcd_jobs.EtcdStatusJob.EtcdStatusJob}
+use Rattle.bolt_job.specs.{declared.etcd_commands.EtcdCheckJob.EtcdCheckJob, declared.etcd_commands.EtcdGetJob.EtcdGetJob}
+use Rattle.bolt_job.specs.{declared.etcd_commands.EtcdKeysJob.EtcdKeysJob}
+use Rattle.bolt_job.specs.{declared.etcd_commands.EtcdRevisionsJob.EtcdRevisionsJob, declared.etcd_commands.EtcdStatusJob.EtcdStatusJob}
 
 -- what is under the root bucket
 abbrev pub IsStoreOf : List ℕ → Meta → StoreView → Type 0
@@ -31,7 +31,7 @@ OfKeys (Some entries) IsWanted answer = IsWanted entries answer
 -- entries that aren't revisions are counted on standard error: they may have been newer
 abbrev pub others_ending : ℕ → JobEnding
 others_ending zero = Ok 0
-others_ending (suc n) = Err (failure.Others (suc n))
+others_ending (suc n) = Err (failure.NotRevisions (suc n))
 
 abbrev pub entries_ending : List LeafElement → JobEnding
 entries_ending entries = others_ending (counted 0 (length (others entries)))

@@ -15,7 +15,7 @@ use Rattle.bolt_text.specs.declared.report_fault.ReportFault.{ReportFault}
 use Rattle.bolt_text.specs.declared.report_fault.ReportFault.TheVariants as report
 use Rattle.bolt_commands.specs.{Shortfalls.shortfall_text, declared.failure.Failure.Failure}
 use Rattle.bolt_commands.specs.declared.failure.Failure.TheVariants.{BucketMaybeLost, Compacted, Exists, File, Hash, KeyMaybeLost, Line, Lacking}
-use Rattle.bolt_commands.specs.declared.failure.Failure.TheVariants.{Memory, Open, NoBucket, NoKey, NoState, NotABucket, Others, Page, TooLarge}
+use Rattle.bolt_commands.specs.declared.failure.Failure.TheVariants.{Memory, Open, NoBucket, NoKey, NoState, NotABucket, NotRevisions, Page, TooLarge}
 use Rattle.bolt_commands.specs.declared.failure.Failure.TheVariants.{TooManyPages, Write}
 
 abbrev pub failure_text : Failure → List ℕ
@@ -34,7 +34,7 @@ failure_text Write = codes "write failed\n"
 failure_text (Hash fault) = snapshot_fault_text fault
 failure_text Exists = codes "lost+found exists\n"
 failure_text NotABucket = codes "key is not a bucket\n"
-failure_text (Others count) = codes "not revisions: " ++ (decimal count ++ codes "\n")
+failure_text (NotRevisions count) = codes "not revisions: " ++ (decimal count ++ codes "\n")
 failure_text Compacted = codes "revision compacted\n"
 failure_text (Lacking lacking) = shortfall_text lacking
 failure_text (Line number fault) = codes "line " ++ ((decimal number ++ codes ": ") ++ (line_fault_words fault ++ codes "\n"))

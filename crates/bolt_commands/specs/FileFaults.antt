@@ -6,8 +6,8 @@ use Rattle.bolt_report.specs.{FaultWords.snapshot_fault_text, MetaLines.slot_fau
 use Rattle.bolt_etcd.specs.declared.check.snapshot.SnapshotFault.{SnapshotFault}
 use Rattle.bolt_commands.specs.{SnapshotAnswers.bad_hash, SnapshotAnswers.asked_hash_fault, declared.file_faults.FileFaults.FileFaults}
 use Rattle.bolt_commands.specs.declared.other_meta.OtherMeta.{OtherMeta}
-use Rattle.bolt_job.specs.{declared.choices.Extent.Extent, declared.choices.Extent.TheVariants.Losses, declared.choices.Extent.TheVariants.FoundPages}
-use Rattle.bolt_job.specs.{declared.choices.Extent.TheVariants.Sound}
+use Rattle.bolt_job.specs.{CopyKinds.is_snapshot, declared.choices.CopyKind.CopyKind, declared.choices.Extent.Extent}
+use Rattle.bolt_job.specs.declared.choices.Extent.TheVariants.{FoundPages, Losses, Sound}
 use Rattle.bolt_job.specs.declared.choices.MetaChoice.{MetaChoice}
 use Rattle.bolt_job.specs.declared.choices.MetaChoice.TheVariants.{Active, Assumed, InSlot}
 
@@ -40,8 +40,8 @@ pub record AreFileFaults (extent : Extent) (snapshot : Bool) (file : List ℕ) (
   pub metas : IsMetasFault extent file choice faults.other
 
 -- What is wrong with a file that is copied: a wrong hash counts only if a snapshot is made of the file, and if the file has a hash.
-pub record AreCopyFaults (extent : Extent) (snapshot : Bool) (file : List ℕ) (choice : MetaChoice) (faults : FileFaults) : Type 0 where
-  pub hash : faults.hash ≡ bad_hash snapshot file
+pub record AreCopyFaults (extent : Extent) (kind : CopyKind) (file : List ℕ) (choice : MetaChoice) (faults : FileFaults) : Type 0 where
+  pub hash : faults.hash ≡ bad_hash (is_snapshot kind) file
   pub metas : IsMetasFault extent file choice faults.other
 
 -- nothing is

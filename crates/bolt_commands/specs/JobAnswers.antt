@@ -2,7 +2,7 @@
 use Rattle.std.specs.Prelude.{◌≡◌, ◌<◌, ◌⊎◌, ℕ, List, [], ◌∷◌, Bool, length, Option, Some, None, Err}
 use Rattle.std.specs.Io.KnownBytes.{Appends}
 use Rattle.bolt_bulk.specs.Compacting.{too_many}
-use Rattle.bolt_layout.specs.{Copies.layout_of_listing, declared.Layout.Layout, declared.Layout.TheVariants.Balanced}
+use Rattle.bolt_layout.specs.Copies.{layout_of_listing}
 use Rattle.bolt_format.specs.declared.meta.Meta.{Meta}
 use Rattle.bolt_load.specs.{LineFaults.IsListingText, LineFaults.IsLoadFault, declared.load_fault.LoadFault.LoadFault}
 use Rattle.bolt_load.specs.{declared.load_fault.LineFault.TheVariants.CutOff}
@@ -10,8 +10,8 @@ use Rattle.bolt_text.specs.LineMembers.{text_members}
 use Rattle.bolt_recover.specs.Losses.{LostView}
 use Rattle.bolt_report.specs.FoundLines.{FoundView}
 use Rattle.bolt_tree.specs.Listing.{Member}
-use Rattle.bolt_job.specs.{CopyKinds.is_snapshot, declared.choices.Extent.Extent, declared.choices.Extent.TheVariants.FoundPages}
-use Rattle.bolt_job.specs.{declared.job.Job.Job, declared.choices.MetaChoice.MetaChoice}
+use Rattle.bolt_job.specs.{CopyKinds.is_snapshot, declared.choices.CopyKind.CopyKind, declared.choices.Extent.Extent}
+use Rattle.bolt_job.specs.{declared.choices.Extent.TheVariants.FoundPages, declared.job.Job.Job, declared.choices.MetaChoice.MetaChoice}
 use Rattle.bolt_job.specs.{declared.choices.MetaChoice.TheVariants.Active, declared.choices.PageSize.PageSize}
 use Rattle.bolt_commands.specs.{CopyLayouts.layout_for, Failures.unloaded, FileFaults.AreCopyFaults, GoodCopies.IsGoodCopy, SnapshotAnswers.copy_of}
 use Rattle.bolt_commands.specs.{declared.failure.Failure.Failure}
@@ -25,7 +25,7 @@ use Rattle.bolt_commands.specs.{PageAnswers.IsInfoAnswer, PageAnswers.IsPageAnsw
 use Rattle.bolt_commands.specs.{RepairAnswers.IsUnrestored, RepairAnswers.repair_report}
 use Rattle.bolt_commands.specs.{StatesAnswers.IsStatesPrint, StatsAnswers.IsStatsPrint}
 use Rattle.bolt_commands.specs.declared.failure.Failure.TheVariants as failure
-use Rattle.bolt_etcd.specs.{Wire.Others.OtherView, declared.check.snapshot.SnapshotFault.SnapshotFault}
+use Rattle.bolt_etcd.specs.{Wire.UnreadEntries.UnreadView, declared.check.snapshot.SnapshotFault.SnapshotFault}
 use Rattle.bolt_job.specs.declared.job.Job.TheVariants as job
 
 -- standard output and the target, each from its state `old` to `new`
@@ -51,8 +51,14 @@ module _ {O T : Type 0} (out_taken : O → Option (List ℕ)) (out_failed : O �
       (failure : Failure) × StopsShort target_taken target_failed target_old target_new layout (copy_of snapshot layout) failure × (out_new ≡ out_old)
       × (ending ≡ Err failure)
 
-  abbrev pub WritesCopy : (snapshot : Bool) → (listing : List Member) → (layout : List ℕ) → (ℕ → Answer) → JobEnding → Type 0
-  WritesCopy snapshot listing layout answer ending = CopiesWhole snapshot listing layout answer ending ⊎ CopiesInPart snapshot layout ending
+  -- the copy with this layout is written, or a part of it
+  abbrev pub WritesLayout : (snapshot : Bool) → (listing : List Member) → (layout : List ℕ) → (ℕ → Answer) → JobEnding → Type 0
+  WritesLayout snapshot listing layout answer ending = CopiesWhole snapshot listing layout answer ending ⊎ CopiesInPart snapshot layout ending
+
+  -- that of a listing: the copy of this kind, at this page size and with this sequence of the root bucket
+  abbrev pub WritesCopy : CopyKind → (page_size : ℕ) → (listing : List Member) → (sequence : ℕ) → (ℕ → Answer) → JobEnding → Type 0
+  WritesCopy kind page_size listing sequence answer ending =
+      WritesLayout (is_snapshot kind) listing (layout_of_listing (layout_for kind) page_size listing sequence) answer ending
 
   -- nothing is written, for this reason
   abbrev pub WritesNone : Failure → JobEnding → Type 0
@@ -66,38 +72,35 @@ module _ {O T : Type 0} (out_taken : O → Option (List ℕ)) (out_failed : O �
   -- `compact` to any extent: The target accepts the layout that is asked for of what is read, at the copy's page size, and for a snapshot then
   -- its hash: a good copy of that listing. Then it is reported if the file has a hash that isn't right, if the newest state may be lost, what is
   -- lost and what is found. Or the file isn't read, and neither is touched.
-  abbrev pub MakesCopy : List ℕ → MetaChoice → Option PageSize → Layout → (snapshot : Bool) → Extent → JobEnding → Type 0
-  MakesCopy file choice size which snapshot extent ending =
+  abbrev pub MakesCopy : List ℕ → MetaChoice → Option PageSize → CopyKind → Extent → JobEnding → Type 0
+  MakesCopy file choice size kind extent ending =
       ((meta : Meta) × (listing : List Member) × (lost : LostView) × (found : List FoundView) × IsReadTo extent file choice meta listing lost found
-      × (faults : FileFaults) × AreCopyFaults extent snapshot file choice faults × CopiesUnless (hash_refusal extent faults.hash)
-      (WritesCopy snapshot listing (layout_of_listing which (copy_page_size size meta) listing meta.root_sequence)
-      (copy_report faults lost found (length file))) ending)
+      × (faults : FileFaults) × AreCopyFaults extent kind file choice faults × CopiesUnless (hash_refusal extent faults.hash)
+      (WritesCopy kind (copy_page_size size meta) listing meta.root_sequence (copy_report faults lost found (length file))) ending)
       ⊎ ((why : Failure) × IsUnreadTo extent file choice why × WritesNone why ending)
 
   -- the copy of the repaired listing, and what is reported of it
-  abbrev pub WritesRestored : List ℕ → MetaChoice → Option PageSize → (snapshot search : Bool) → JobEnding → Type 0
-  WritesRestored file choice size snapshot search ending =
-      (meta : Meta) × (listing : List Member) × (lost : LostView) × (others : List OtherView) × (back left_out : ℕ)
+  abbrev pub WritesRestored : List ℕ → MetaChoice → Option PageSize → CopyKind → (search : Bool) → JobEnding → Type 0
+  WritesRestored file choice size kind search ending =
+      (meta : Meta) × (listing : List Member) × (lost : LostView) × (others : List UnreadView) × (back left_out : ℕ)
       × IsRestored file choice search meta listing lost others back left_out
-      × (faults : FileFaults) × AreCopyFaults FoundPages snapshot file choice faults
-      × WritesCopy snapshot listing (layout_of_listing Balanced (copy_page_size size meta) listing meta.root_sequence)
-      (repair_report faults lost others back left_out (length file)) ending
+      × (faults : FileFaults) × AreCopyFaults FoundPages kind file choice faults
+      × WritesCopy kind (copy_page_size size meta) listing meta.root_sequence (repair_report faults lost others back left_out (length file)) ending
 
-  -- `etcd-repair`: The target accepts the balanced layout of the repaired listing at the copy's page size, and for a snapshot then its hash: a good
-  -- copy of that listing. Then it is reported if the file has a hash that isn't
-  -- right, if the newest state may be lost, what is lost, what isn't copied,
-  -- which revisions may be missing, and how many go back. Or there is no repaired listing, or memory ran out, and neither is touched.
-  abbrev pub MakesRepair : List ℕ → MetaChoice → Option PageSize → (snapshot search : Bool) → JobEnding → Type 0
-  MakesRepair file choice size snapshot search ending =
-      ∥ WritesRestored file choice size snapshot search ending ∥₁ ⊎ ((why : Failure) × IsUnrestored file choice search why × WritesNone why ending)
+  -- `etcd-repair`: The target accepts the layout that is asked for of the repaired listing, at the copy's page size, and for a snapshot then its
+  -- hash: a good copy of that listing. Then it is reported if the file has a hash that isn't right, if the newest state may be lost, what is lost,
+  -- what isn't copied, which revisions may be missing, and how many go back. Or there is no repaired listing, or memory ran out, and neither is
+  -- touched.
+  abbrev pub MakesRepair : List ℕ → MetaChoice → Option PageSize → CopyKind → (search : Bool) → JobEnding → Type 0
+  MakesRepair file choice size kind search ending =
+      ∥ WritesRestored file choice size kind search ending ∥₁ ⊎ ((why : Failure) × IsUnrestored file choice search why × WritesNone why ending)
 
   -- `load`: The target accepts the layout that is asked for of the listing that the lines of the file tell, with this root sequence, and for a
   -- snapshot then its hash: a good copy of that listing. Or a line isn't right, or memory ran out, and neither is touched.
-  abbrev pub Loads : List ℕ → (page_size sequence : ℕ) → Layout → (snapshot : Bool) → JobEnding → Type 0
-  Loads file page_size sequence which snapshot ending =
+  abbrev pub Loads : List ℕ → (page_size sequence : ℕ) → CopyKind → JobEnding → Type 0
+  Loads file page_size sequence kind ending =
       (IsListingText file
-      × WritesCopy snapshot (text_members file) (layout_of_listing which page_size (text_members file) sequence)
-      (λ copy. done (lengths_line (length file) copy)) ending)
+      × WritesCopy kind page_size (text_members file) sequence (λ copy. done (lengths_line (length file) copy)) ending)
       ⊎ ((fault : LoadFault) × IsLoadFault file fault × WritesNone (unloaded fault) ending)
 
   -- nothing is written, and the job ends with this failure or for want of memory
@@ -105,12 +108,10 @@ module _ {O T : Type 0} (out_taken : O → Option (List ℕ)) (out_failed : O �
   StopsAt why ending = (out_new ≡ out_old) × (target_new ≡ target_old) × ((ending ≡ Err why) ⊎ (ending ≡ Err failure.Memory))
 
   -- `load` of the text of this listing, which has no line that isn't right; a text without a line is cut off
-  abbrev pub LoadsListing : List Member → List ℕ → (page_size sequence : ℕ) → Layout → (snapshot : Bool) → JobEnding → Type 0
-  LoadsListing [] file page_size sequence which snapshot ending = StopsAt (failure.Line 1 CutOff) ending
-  LoadsListing (member ∷ listing) file page_size sequence which snapshot ending =
-      WritesCopy snapshot (member ∷ listing) (layout_of_listing which page_size (member ∷ listing) sequence)
-      (λ copy. done (lengths_line (length file) copy)) ending
-      ⊎ StopsAt failure.Memory ending
+  abbrev pub LoadsListing : List Member → List ℕ → (page_size sequence : ℕ) → CopyKind → JobEnding → Type 0
+  LoadsListing [] file page_size sequence kind ending = StopsAt (failure.Line 1 CutOff) ending
+  LoadsListing (member ∷ listing) file page_size sequence kind ending =
+      WritesCopy kind page_size (member ∷ listing) sequence (λ copy. done (lengths_line (length file) copy)) ending ⊎ StopsAt failure.Memory ending
 
   -- what a job does, and how it ends
   abbrev pub DoesJob : List ℕ → Job → JobEnding → Type 0
@@ -124,11 +125,11 @@ module _ {O T : Type 0} (out_taken : O → Option (List ℕ)) (out_failed : O �
   DoesJob file (job.Keys j) = Prints (IsKeysPrint j file)
   DoesJob file (job.Get j) = Prints (IsGetPrint j file)
   DoesJob file (job.List j) = Prints (IsListPrint j file)
-  DoesJob file (job.Compact j) = MakesCopy file j.meta j.page_size (layout_for j.kind) (is_snapshot j.kind) j.extent
+  DoesJob file (job.Compact j) = MakesCopy file j.meta j.page_size j.kind j.extent
   DoesJob file (job.EtcdRevisions j) = Prints (IsEtcdRevisionsPrint j file)
   DoesJob file (job.EtcdKeys j) = Prints (IsEtcdKeysPrint j file)
   DoesJob file (job.EtcdGet j) = Prints (IsEtcdGetPrint j file)
   DoesJob file (job.EtcdCheck j) = Prints (IsEtcdCheckPrint j file)
   DoesJob file (job.EtcdStatus j) = Prints (IsEtcdStatusPrint j file)
-  DoesJob file (job.EtcdRepair j) = MakesRepair file j.meta j.page_size j.snapshot j.search
-  DoesJob file (job.Load j) = Loads file j.page_size.bytes j.sequence (layout_for j.kind) (is_snapshot j.kind)
+  DoesJob file (job.EtcdRepair j) = MakesRepair file j.meta j.page_size j.kind j.search
+  DoesJob file (job.Load j) = Loads file j.page_size.bytes j.sequence j.kind

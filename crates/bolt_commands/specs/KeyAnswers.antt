@@ -11,7 +11,7 @@ use Rattle.bolt_tree.specs.{Paths.Path}
 use Rattle.bolt_commands.specs.{declared.shortfall.Shortfall.Shortfall, declared.failure.Failure.Failure}
 use Rattle.bolt_commands.specs.Answers.{Answer, IsPrinted, JobEnding, Late, Short, in_json, refused}
 use Rattle.bolt_commands.specs.FilesRead.{HoldsIn, IsLackingTo, IsReadAnswer, IsReadTo, IsUnreadTo, LeadsNowhere, LeadsTo, shortfall_ending}
-use Rattle.bolt_report.specs.AtPaths.{parents_of}
+use Rattle.bolt_tree.specs.Paths.{path_above}
 use Rattle.bolt_job.specs.{declared.choices.BucketsShown.BucketsShown, declared.choices.Extent.TheVariants.Losses}
 use Rattle.bolt_job.specs.{declared.bucket_commands.BucketsJob.BucketsJob}
 use Rattle.bolt_job.specs.{declared.bucket_commands.GetJob.GetJob, declared.bucket_commands.KeysJob.KeysJob, declared.choices.MetaChoice.MetaChoice}
@@ -30,8 +30,8 @@ IsEntriesAnswer file path form text meta answer =
 abbrev pub HoldsNone : List ℕ → Path → Meta → Failure → Type 0
 HoldsNone file path meta reason =
     ((reason ≡ failure.NoKey) × ((value : List ℕ) → HoldsIn file meta path (Value value) → ⊥)
-    × ((bucket : Start) × ∥ LeadsTo file meta (parents_of path) bucket ∥₁))
-    ⊎ ((reason ≡ failure.NoBucket) × LeadsNowhere file meta (parents_of path))
+    × ((bucket : Start) × ∥ LeadsTo file meta (path_above path) bucket ∥₁))
+    ⊎ ((reason ≡ failure.NoBucket) × LeadsNowhere file meta (path_above path))
 
 -- how a value is printed: with a line feed or without one
 abbrev pub value_shown : Form → (no_newline : Bool) → List ℕ → List ℕ
@@ -79,7 +79,7 @@ IsNamesAnswer form wanted path listing lacking answer = IsPrinted Late (names_te
 
 -- why a listing has no value at a path
 abbrev pub no_value : Path → List Member → Option Shortfall → Failure
-no_value path listing lacking = if has_bucket (parents_of path) listing then no_key lacking else no_bucket lacking
+no_value path listing lacking = if has_bucket (path_above path) listing then no_key lacking else no_bucket lacking
 
 -- the value that the listing has at the path, and then what is lacking; or it has none
 abbrev pub IsRecoveredValue : GetJob → List Member → Option Shortfall → Answer → Type 0

@@ -5,7 +5,7 @@ use Rattle.bolt_recover.specs.{Losses.LostView, Lost.IsAllLost}
 use Rattle.bolt_repair.specs.{FullRepairs.IsFullRepair, RepairRefusals.IsRepairRefusal, Repaired.HasStore, Repaired.repaired_listing}
 use Rattle.bolt_repair.specs.{declared.repair_fault.RepairFault.RepairFault}
 use Rattle.bolt_report.specs.{FoundLines.lost_text, UnreadLines.unread_text}
-use Rattle.bolt_etcd.specs.Wire.Others.{OtherView}
+use Rattle.bolt_etcd.specs.Wire.UnreadEntries.{UnreadView}
 use Rattle.bolt_repair.specs.{Bounds.repair_bound, Readable.unread, Repaired.Made, declared.bound.Bound.Bound}
 use Rattle.bolt_repair.specs.declared.bound.Bound.TheVariants as bound
 use Rattle.bolt_tree.specs.{Entries.EntryView, Listing.Member}
@@ -19,7 +19,7 @@ use Rattle.bolt_commands.specs.declared.failure.Failure.TheVariants as failure
 -- something is lost, what is lost of it, which entries aren't copied, how many revisions go back, and how
 -- many stay out. If none goes back, the bucket is there.
 pub record IsRestored (file : List ℕ) (choice : MetaChoice) (search : Bool) (meta : Meta) (listing : List Member) (lost : LostView)
-    (others : List OtherView) (back left_out : ℕ) : Type 0 where
+    (others : List UnreadView) (back left_out : ℕ) : Type 0 where
   pub under : IsMetaOf file choice meta
   pub loses : IsAllLost file meta lost
   pub entries : List EntryView
@@ -47,13 +47,13 @@ bound_line (bound.UpTo main) = codes "revisions up to " ++ (decimal main ++ code
 bound_line bound.Any = codes "any revision may be missing\n"
 
 -- the status of a repair: that of a copy, and 1 if an entry isn't copied
-abbrev pub repair_status : FileFaults → LostView → List OtherView → ℕ
+abbrev pub repair_status : FileFaults → LostView → List UnreadView → ℕ
 repair_status faults lost [] = copy_status faults lost
 repair_status faults lost (other ∷ others) = 1
 
 -- what is reported of a repair: what is wrong with its file apart from the pages, each loss, each entry that isn't copied, which revisions the copy
 -- may lack, how many go back, and the lengths of the file and of the copy
-abbrev pub repair_report : FileFaults → LostView → List OtherView → (back left_out source copy : ℕ) → Answer
+abbrev pub repair_report : FileFaults → LostView → List UnreadView → (back left_out source copy : ℕ) → Answer
 repair_report faults lost others back left_out source copy = record {
   out = fault_lines faults ++ (lost_text lost [] ++ (unread_text others ++ ((bound_line (repair_bound lost others (is_some faults.other))
       ++ counts_line back left_out) ++ lengths_line source copy)));

@@ -3,7 +3,7 @@
 ghost use Rattle.std.specs.Prelude.{◌≡◌, List, OnOk, map};
 ghost use Rattle.std.specs.List.{All};
 ghost use Rattle.bolt_bulk.specs.WholeListings.{IsWholeListing};
-ghost use Rattle.bolt_etcd.specs.Wire.Others.{shown_other};
+ghost use Rattle.bolt_etcd.specs.Wire.UnreadEntries.{shown_unread};
 ghost use Rattle.bolt_format.specs.{Endings.ending, Metas.IsPageSize, Wrote.Wrote};
 ghost use Rattle.bolt_job.specs.CopyKinds.{is_snapshot};
 ghost use Rattle.bolt_layout.specs.Copies.{IsOfOneTree};
@@ -20,7 +20,7 @@ use crate::hashed_copy::{MembersSource, copy_hashed};
 use crate::laws::whole_copies_are_good;
 use crate::repair_counts::{RepairCounts, put_if_repaired};
 use bolt_bulk::{Blueprint, BulkFault, compact_members};
-use bolt_etcd::Other;
+use bolt_etcd::UnreadEntry;
 use bolt_format::laws::fits;
 use bolt_format::{Meta, Sink, SinkFault};
 use bolt_job::{CopyKind, PageSize};
@@ -108,7 +108,7 @@ pub(crate) struct CopyReport<'l, 'f> {
     pub lost: Lost<'l>,
     pub found: &'f [FoundPage<'f>],
     /// The entries of the bucket `key` that a repair doesn't copy.
-    pub unread: &'l [Other<'l>],
+    pub unread: &'l [UnreadEntry<'l>],
     /// What is counted of a repair, if the copy is one of a repair.
     pub counts: Option<RepairCounts>,
     /// The length of the file.
@@ -142,8 +142,8 @@ fn put_copy_report<O: Sink>(
 
 /// The status of a copy if this is wrong with the file, this is lost of it, and these entries aren't
 /// copied.
-fn status_of(faults: FileFaults, lost: Lost<'_>, unread: &[Other<'_>]) -> u8
-    ensures { result ≡ repair_status faults (lost_view lost.entry) (map shown_other unread.now) }
+fn status_of(faults: FileFaults, lost: Lost<'_>, unread: &[UnreadEntry<'_>]) -> u8
+    ensures { result ≡ repair_status faults (lost_view lost.entry) (map shown_unread unread.now) }
 {
     if unread.is_empty() {
         u8::from(!(faults.is_fine() && lost.is_nothing()))

@@ -65,6 +65,6 @@ pub(crate) fn end_others(others: u64) -> Outcome
 {
     match others {
         0 => Ok(0),
-        _ => Err(Failure::Others(others)),
+        _ => Err(Failure::NotRevisions(others)),
     }
 }

@@ -18,15 +18,17 @@ use std::alloc::AllocFailed;
 /// Why a job isn't done (docs/COMMANDS.md, "What a run writes").
 #[derive(Clone, Copy)]
 pub enum Failure {
-    /// There is no valid meta.
+    /// There is no valid meta. With `--meta`: the slot that is named has none.
     Open(MetaFault),
-    /// The file isn't sound: its first finding.
+    /// The file isn't sound: its first finding. Of a damaged file that is recovered: the root page is lost,
+    /// with this finding, and there is nothing to print or to copy.
     File(Finding),
     /// The page that was asked for is refused.
     Page(PageFault),
-    /// The path that was asked for leads to no bucket, or there is no bucket `key` to repair.
+    /// The path that was asked for leads to no bucket. Or a command that reads or repairs what etcd keeps
+    /// finds no bucket `key`.
     NoBucket,
-    /// The path that was asked for has no value.
+    /// The path that was asked for has no value. Or the name that was asked for in etcd has none.
     NoKey,
     /// The file has no state: no meta is valid, and no page can be the root page of one.
     NoState,
@@ -53,8 +55,9 @@ pub enum Failure {
     Lacking(Shortfall),
     /// The transaction that was asked for was compacted away.
     Compacted,
-    /// What etcd keeps was printed, and this many entries of its bucket `key` aren't revisions.
-    Others(u64),
+    /// What etcd keeps was printed, and this many of the entries that were looked at are neither revisions
+    /// nor marks.
+    NotRevisions(u64),
     /// The file isn't the text of a listing: the number of its first line that isn't right, and what
     /// is wrong with it.
     Line(u64, LineFault),

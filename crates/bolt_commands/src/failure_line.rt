@@ -43,7 +43,7 @@ fn put_failure_text<E: Sink>(failure: &Failure, err: &mut E) -> Result<(), SinkF
         Failure::Exists => put(b"lost+found exists\n", err),
         Failure::Write => put(b"write failed\n", err),
         Failure::Lacking(shortfall) => put_shortfall(*shortfall, err),
-        Failure::Others(count) => put_numbered(b"not revisions: ", *count, err),
+        Failure::NotRevisions(count) => put_numbered(b"not revisions: ", *count, err),
         Failure::Compacted => put(b"revision compacted\n", err),
         Failure::Line(line, fault) => put_line_fault(*line, *fault, err),
     }

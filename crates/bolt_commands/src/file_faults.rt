@@ -61,7 +61,7 @@ impl FileFaults {
         extent: Extent,
         choice: MetaChoice,
     ) -> FileFaults
-        ensures { AreCopyFaults extent (is_snapshot kind) file.now choice result }
+        ensures { AreCopyFaults extent kind file.now choice result }
     {
         FileFaults {
             hash: bad_hash(kind, file),

@@ -161,8 +161,8 @@ pub fn loading_a_listing_copies_it<O: Sink, T: Sink>()
 /// the same meta, chosen so that its accounts don't count: by its slot, or as an assumed one. There are
 /// two exceptions: a snapshot that is to be made of a file with a hash that isn't right, and names of
 /// which memory runs out before all are written. And with `--lost-and-found`, `list` and `compact` do
-/// exactly what they do with `--recover`. `etcd-repair` without a search
-/// in any case puts nothing back, and copies for bbolt what etcd can read.
+/// exactly what they do with `--recover`. `etcd-repair` without a search in any case puts nothing back,
+/// and copies what etcd can read.
 pub fn recovering_sound_trees_reads_them<O: Sink, T: Sink>()
     ensures list { UnderSoundTrees (ListsAlike extent.Losses extent.Sound) }
     ensures compact { UnderSoundTrees (CopiesAlike O.Sink T.Sink extent.Losses extent.Sound) }

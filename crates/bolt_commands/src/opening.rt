@@ -46,7 +46,7 @@ impl<'f> Contents<'f> {
         match self {
             Contents::Sound(checked) => checked.meta(),
             Contents::Recovered(recovery) => recovery.meta(),
-            Contents::Searched(both) => both.meta,
+            Contents::Searched(searched) => searched.meta,
         }
     }
 
@@ -57,7 +57,7 @@ impl<'f> Contents<'f> {
         match self {
             Contents::Sound(_) => Lost::Parts(&[]),
             Contents::Recovered(recovery) => Lost::Parts(recovery.losses()),
-            Contents::Searched(both) => both.lost(),
+            Contents::Searched(searched) => searched.lost(),
         }
     }
 
@@ -66,7 +66,7 @@ impl<'f> Contents<'f> {
         ensures { result.now ≡ contents_found self.now }
     {
         match self {
-            Contents::Searched(both) => both.found.as_slice(),
+            Contents::Searched(searched) => searched.found.as_slice(),
             _ => &[],
         }
     }
@@ -147,8 +147,8 @@ impl<'f> Input<'f> {
         ensures refused { IfErr result (IsUnsearched self.entry.file.now choice) }
     {
         let meta = choice.find(self.file)?;
-        let both = LostAndFound::under(self.alloc, self.file, meta)?;
-        Ok(both)
+        let searched = LostAndFound::under(self.alloc, self.file, meta)?;
+        Ok(searched)
     }
 }
 
@@ -157,13 +157,13 @@ impl<'f> Input<'f> {
 pub(crate) fn join<'a>(
     input: Input<'_>,
     choice: MetaChoice,
-    both: &'a LostAndFound<'_>,
+    searched: &'a LostAndFound<'_>,
 ) -> Result<JoinedListing<'a>, Failure>
-    requires { IsSearchOf input.file.now choice both.now }
-    ensures joined { IfOk result (IsJoinedOf both.now) }
+    requires { IsSearchOf input.file.now choice searched.now }
+    ensures joined { IfOk result (IsJoinedOf searched.now) }
     ensures refused { IfErr result (IsUnjoinedUnder input.entry.file.now choice) }
 {
-    let joined = JoinedListing::new(input.alloc, both)?;
+    let joined = JoinedListing::new(input.alloc, searched)?;
     Ok(joined)
 }
 

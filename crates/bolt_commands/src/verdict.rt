@@ -1,5 +1,5 @@
 //! What is wrong with a file, to the extent that is asked for: `check` and `etcd-check` write it.
-ghost use Rattle.std.specs.Prelude.{◌≡◌, ◌≢◌, ◌<◌, [], IfOk, map, true};
+ghost use Rattle.std.specs.Prelude.{◌≡◌, ◌<◌, [], IfOk, map, true};
 ghost use Rattle.std.specs.List.{All};
 ghost use Rattle.bolt_recover.specs.{PageGaps.ForGaps, PageGaps.page_gap_view, Losses.is_nothing, LostAndFound.all_lost, KeptPages.AreKeptPages};
 ghost use Rattle.bolt_recover.specs.Recoveries.{recovery_claimed, recovery_file, recovery_gaps, recovery_meta};
@@ -13,7 +13,7 @@ ghost use Rattle.bolt_check.specs.declared.check_fault.CheckFault.TheVariants as
 
 use crate::failure::{Failure, Outcome};
 use crate::file_faults::{FileFaults, put_file_faults};
-use crate::opening::{Contents, Input};
+use crate::opening::Input;
 use bolt_check::{CheckFault, Checked, Finding, NoMemory};
 use bolt_format::{Meta, MetaFault, Sink};
 use bolt_job::{Extent, MetaChoice};
@@ -54,7 +54,8 @@ pub(crate) fn check_to<'f, O: Sink>(
 {
     match extent {
         Extent::Sound => check_sound(checking, out),
-        _ => check_lost(checking, extent, out),
+        Extent::Losses => check_losses(checking, out),
+        Extent::FoundPages => check_found(checking, out),
     }
 }
 
@@ -93,21 +94,24 @@ fn is_right(faults: FileFaults, gaps: &[PageGap<'_>]) -> bool
     gaps.is_empty() && faults.is_fine()
 }
 
-/// Writes each loss, each gap and, if they are looked for, each page that is found; if nothing is lost,
-/// the findings and each gap.
-fn check_lost<'f, O: Sink>(checking: Checking<'f>, extent: Extent, out: &mut O) -> Verdict<'f>
-    requires { extent ≢ Extent.Sound }
-    ensures { ChecksTo O.Sink out.old out.new extent checking.entry result }
+/// Writes each loss and each gap; if nothing is lost, the findings and each gap.
+fn check_losses<'f, O: Sink>(checking: Checking<'f>, out: &mut O) -> Verdict<'f>
+    ensures { ChecksLost O.Sink out.old out.new Extent.Losses checking.entry result }
 {
-    let contents = match checking.input.open(checking.choice, extent) {
-        Ok(contents) => contents,
-        Err(failure) => return Verdict::Wrong(put_unopened(failure, checking.faults, out)),
-    };
-    match contents {
-        Contents::Recovered(recovery) => check_recovered(checking, recovery, out),
-        Contents::Searched(both) => check_searched(checking, &both, out),
-        // It isn't opened so.
-        Contents::Sound(_) => check_sound(checking, out),
+    match checking.input.recover(checking.choice) {
+        Ok(recovery) => check_recovered(checking, recovery, out),
+        Err(fault) => Verdict::Wrong(put_unopened(Failure::from(fault), checking.faults, out)),
+    }
+}
+
+/// Writes each loss, each gap and each page that is found; if nothing is lost, the findings and each
+/// gap.
+fn check_found<'f, O: Sink>(checking: Checking<'f>, out: &mut O) -> Verdict<'f>
+    ensures { ChecksLost O.Sink out.old out.new Extent.FoundPages checking.entry result }
+{
+    match checking.input.search(checking.choice) {
+        Ok(searched) => check_searched(checking, &searched, out),
+        Err(failure) => Verdict::Wrong(put_unopened(failure, checking.faults, out)),
     }
 }
 
@@ -157,32 +161,32 @@ fn counts_accounts(choice: MetaChoice) -> bool
 /// Prints what is wrong with a file that was searched.
 fn check_searched<'f, O: Sink>(
     checking: Checking<'f>,
-    both: &LostAndFound<'_>,
+    searched: &LostAndFound<'_>,
     out: &mut O,
 ) -> Verdict<'f>
-    requires { IsSearchOf checking.input.file.now checking.choice both.now }
+    requires { IsSearchOf checking.input.file.now checking.choice searched.now }
     ensures { ChecksLost O.Sink out.old out.new Extent.FoundPages checking.entry result }
 {
-    let lost = both.lost();
+    let lost = searched.lost();
     if lost.is_nothing() {
-        return check_whole(checking, both, out);
+        return check_whole(checking, searched, out);
     }
-    let gaps = both.gaps();
-    let found = both.found.as_slice();
+    let gaps = searched.gaps();
+    let found = searched.found.as_slice();
     Verdict::Wrong(put_lost_after(lost, gaps, found, checking.faults, out))
 }
 
 /// Prints what is wrong with a file that was searched, and that lost nothing.
 fn check_whole<'f, O: Sink>(
     checking: Checking<'f>,
-    both: &LostAndFound<'_>,
+    searched: &LostAndFound<'_>,
     out: &mut O,
 ) -> Verdict<'f>
-    requires search { IsSearchOf checking.input.file.now checking.choice both.now }
-    requires whole { is_nothing (all_lost both.now) ≡ true }
+    requires search { IsSearchOf checking.input.file.now checking.choice searched.now }
+    requires whole { is_nothing (all_lost searched.now) ≡ true }
     ensures { ChecksLost O.Sink out.old out.new Extent.FoundPages checking.entry result }
 {
-    let Ok(recovery) = visit_all(checking.input, both.meta) else {
+    let Ok(recovery) = visit_all(checking.input, searched.meta) else {
         return Verdict::Wrong(Err(Failure::Memory));
     };
     check_kept(checking, recovery, out)

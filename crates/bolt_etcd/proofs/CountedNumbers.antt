@@ -6,11 +6,11 @@ use Rattle.std.specs.{List.cons_option, List.last_or, Option.option_map, Str.byt
 use Rattle.bolt_lemmas.proofs.Exports.{filter_both}
 use Rattle.bolt_check.specs.{Counts.counted, Keys.Key}
 use Rattle.bolt_tree.proofs.Exports.{counted_more}
-use Rattle.bolt_tree.specs.Entries.{Bucket, EntryView, Item, Value}
+use Rattle.bolt_tree.specs.Entries.{Bucket, EntryView, Item, Value, item_bytes}
 use Rattle.bolt_etcd.specs.{Store.CurrentKeys.is_nameless, Store.CurrentKeys.nameless_key, Store.CurrentKeys.nameless_with, Store.HashKv.live_in}
 use Rattle.bolt_etcd.specs.{Store.Newest.is_named, Store.Newest.is_until, Store.Newest.newest, Wire.Numbered.numbered_in, Wire.Numbered.numbered_of}
 use Rattle.bolt_etcd.specs.{Wire.RevisionKeys.revision_key, Wire.RevisionKeys.is_mark}
-use Rattle.bolt_etcd.specs.{Wire.Revisions.revision_in, Wire.Revisions.revision_of, Wire.Revisions.value_of, Wire.ShownRevisions.bytes_of_item}
+use Rattle.bolt_etcd.specs.{Wire.Revisions.revision_in, Wire.Revisions.revision_of, Wire.Revisions.value_of}
 use Rattle.bolt_etcd.specs.{Wire.ShownRevisions.value_bytes, Wire.Fields.◌>>=◌, declared.wire.revision_key.RevisionKey.RevisionKey}
 use Rattle.bolt_etcd.proofs.{Currents.bind_some, CurrentOnes.bytes_some, CurrentOnes.kinds, MarkLaws.mark_is_no_revision}
 use Rattle.bolt_etcd.specs.{Wire.Revisions.RevisionView, Wire.Revisions.name_of, Store.Statuses.newest_main, Store.Statuses.newest_with}
@@ -74,7 +74,7 @@ number_says : (key value : List ℕ) (r : RevisionView) → numbered_in key valu
 number_says key value r is = grind (arith, bind_some)
 
 module _ (v : EntryView) (r : RevisionView) (k : RevisionKey) (value : List ℕ) (key : k ≡ r.key) (bytes : value ≡ value_bytes v) (n : ℕ) where
-  by_value : (item : Item) → v.item ≡ item → (value_of item >>= numbered_in v.key) ≡ Some r → value ≡ bytes_of_item item
+  by_value : (item : Item) → v.item ≡ item → (value_of item >>= numbered_in v.key) ≡ Some r → value ≡ item_bytes item
       → revisions_with (value_of item >>= revision_in v.key) n ≡ (if is_mark k value then n else counted n 1)
   by_value (Bucket sequence) kind is same = cc
   by_value (Value stored) kind is same =

@@ -18,7 +18,7 @@ use Rattle.bolt_format.specs.Elements.{LeafElement}
 use Rattle.bolt_check.specs.Keys.{Key, key_cmp}
 use Rattle.bolt_tree.proofs.Exports.{key_exact}
 use Rattle.bolt_tree.specs.{Entries.Bucket, Entries.EntryView, Entries.Item, Entries.Value, Entries.entry_cmp, Entries.entry_view}
-use Rattle.bolt_etcd.specs.Store.Current.{AreNewest, IsCurrent}
+use Rattle.bolt_etcd.specs.Store.Current.{AreCurrentBySum, IsCurrent}
 use Rattle.bolt_etcd.specs.Store.Orders.{name_sum_cmp, stored_key_cmp}
 use Rattle.bolt_etcd.specs.Store.CurrentKeys.{any_current_by, begins_with_key, is_current_by, is_nameless, is_this, nameless_key, without_first}
 use Rattle.bolt_etcd.specs.{Histories.Compactions.is_same_revision, Store.HashKv.live_in, Store.HashKv.is_current_at, Store.HashKv.passes}
@@ -83,7 +83,7 @@ module _ (rs : List RevisionView) (up_to : ℕ) (rises : Rises stored_key_cmp rs
   is_current r (last, live) = rw (last, live) (itself r.stored_key)
 
   -- the newest of each name, sorted by their keys, are the current ones in the order that they have
-  pub current_list : (found sorted : List RevisionView) → AreNewest (until up_to rs) found → IsPermutation found sorted
+  pub current_list : (found sorted : List RevisionView) → AreCurrentBySum (until up_to rs) found → IsPermutation found sorted
       → IsSorted stored_key_cmp sorted
       → sorted ≡ filter (is_current_at up_to rs) rs
   current_list found sorted are moved up =

@@ -13,7 +13,7 @@ use Rattle.bolt_lemmas.proofs.Exports.{dedup_mapped, filter_mapped, gives_from, 
 use Rattle.bolt_lemmas.specs.Order.{Rises}
 use Rattle.bolt_format.specs.Elements.{LeafElement}
 use Rattle.bolt_tree.specs.{Entries.EntryView, Entries.entry_cmp, Entries.entry_view}
-use Rattle.bolt_etcd.specs.Store.Current.{AreCurrent, AreNewest, HaveOwnKeys, IsCurrent, IsNewest, is_there}
+use Rattle.bolt_etcd.specs.Store.Current.{AreCurrent, AreCurrentBySum, HaveOwnKeys, IsCurrent, IsCurrentAmong, is_there}
 use Rattle.bolt_etcd.specs.Store.Orders.{AreNewestBySum, name_cmp, name_sum_cmp, stored_key_cmp, sums_cmp}
 use Rattle.bolt_etcd.specs.{Store.Newest.is_named, Store.Newest.newest, Wire.Revisions.RevisionView, Wire.Revisions.name_of}
 use Rattle.bolt_etcd.specs.{Wire.Revisions.revision_in, Wire.Revisions.revision_of, Wire.Revisions.value_of}
@@ -91,15 +91,15 @@ module _ (rs : List RevisionView) where
   abbrev Greatest : RevisionView → Type 0
   Greatest r = IsGreatest name_of (λ (x : RevisionView). x.stored_key) sums_cmp sums_total sums_tie (is_named (name_of r)) rs r
 
-  greatest_newest : (r : RevisionView) → Greatest r → r.key.deleted ≡ false → IsNewest rs r
+  greatest_newest : (r : RevisionView) → Greatest r → r.key.deleted ≡ false → IsCurrentAmong rs r
   greatest_newest r g live = grind (arith, bytes_eq-Decides)
 
-  newest_greatest : (r : RevisionView) → IsNewest rs r → Greatest r
+  newest_greatest : (r : RevisionView) → IsCurrentAmong rs r → Greatest r
   newest_greatest r n = grind (arith, bytes_eq-Decides, not_less)
 
   -- of revisions sorted by names, the newest first, the first of each name that isn't a deletion
   pub first_are_newest : (sorted : List RevisionView) → AreNewestBySum rs sorted → HaveOwnKeys rs
-      → AreNewest rs (filter is_there (dedup view_same_name sorted))
+      → AreCurrentBySum rs (filter is_there (dedup view_same_name sorted))
   first_are_newest sorted are own = record {
     rises =
         rises_from (on_total name_of sums_total) _
@@ -120,7 +120,7 @@ module _ (rs : List RevisionView) where
     pub own_keys : HaveOwnKeys rs
     own_keys a b has also same = one_of nat_list_cmp_total (λ (r : RevisionView). r.stored_key) rs a b rises has also same
 
-    pub current_newest : (r : RevisionView) → IsCurrent rs r ↔ IsNewest rs r
+    pub current_newest : (r : RevisionView) → IsCurrent rs r ↔ IsCurrentAmong rs r
     unfolding newest
     current_newest r = (
       λ (last, live). greatest_newest r (last_greatest name_of (λ r. r.stored_key) sums_cmp sums_total sums_tie (is_named (name_of r)) rs r rises last) live,
@@ -130,7 +130,7 @@ module _ (rs : List RevisionView) where
     differ : (a b : RevisionView) → name_sum_cmp a b ≡ Less → eq_by_cmp name_cmp a b ≡ false
     differ a b less = sym (text_ties (name_of a) (name_of b)) ∙ sums_tie (name_of a) (name_of b) ∙ ap is_eq less
 
-    pub sorted_are_current : (found current : List RevisionView) → AreNewest rs found → IsPermutation found current → IsSorted name_cmp current
+    pub sorted_are_current : (found current : List RevisionView) → AreCurrentBySum rs found → IsPermutation found current → IsSorted name_cmp current
         → AreCurrent rs current
     sorted_are_current found current are same by_name = record {
       rises = sorted_in names_total name_sum_cmp found current (λ a b has also less. differ a b less) are.rises same by_name;
@@ -144,9 +144,9 @@ module _ (rs : List RevisionView) where
 
 pub kept_newest : (old sorted left there : List Revision) → AreNewestBySum (map shown_revision old) (map shown_revision sorted)
     → left ≡ dedup code_same_name sorted
-    → there ≡ filter code_is_there left → HaveOwnKeys (map shown_revision old) → AreNewest (map shown_revision old) (map shown_revision there)
+    → there ≡ filter code_is_there left → HaveOwnKeys (map shown_revision old) → AreCurrentBySum (map shown_revision old) (map shown_revision there)
 kept_newest old sorted left there are once live own =
     let shown =
     ap (map shown_revision) live ∙ filter_mapped shown_revision is_there left
     ∙ ap (filter is_there) (ap (map shown_revision) once ∙ dedup_mapped shown_revision view_same_name sorted) in
-    subst (AreNewest (map shown_revision old)) (sym shown) (first_are_newest (map shown_revision old) (map shown_revision sorted) are own)
+    subst (AreCurrentBySum (map shown_revision old)) (sym shown) (first_are_newest (map shown_revision old) (map shown_revision sorted) are own)

@@ -8,7 +8,7 @@ use Rattle.bolt_lemmas.specs.Order.{Rises}
 use Rattle.bolt_etcd.specs.Histories.Transactions.{State, Transaction, Write, after, after_all, history, history_from, nothing, revision_by, written}
 use Rattle.bolt_etcd.specs.{Wire.RevisionKeys.spelling, Wire.Revisions.RevisionView, Histories.Possible.CanFollow}
 use Rattle.bolt_etcd.specs.Store.Orders.{stored_key_cmp}
-use Rattle.bolt_etcd.specs.{Histories.Possible.CanWrite, Histories.Possible.CanWriteAll, Histories.Possible.ArePossible, Histories.Told.number_cmp}
+use Rattle.bolt_etcd.specs.{Histories.Possible.CanWrite, Histories.Possible.CanWriteAll, Histories.Possible.ArePossible, Histories.Reported.number_cmp}
 use Rattle.bolt_etcd.specs.declared.wire.revision_key.RevisionKey.{RevisionKey}
 use Rattle.bolt_etcd.proofs.KeyNumbers.{less, spellings_cmp}
 

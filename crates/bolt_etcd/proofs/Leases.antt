@@ -31,7 +31,7 @@ module _ (checked : Checked) (start : Start) (entries : List LeafElement) (lease
   pub lacks : {X : Type 0} (f : X → List ℕ) (o : Option X) (none : Bool) (asked : List ℕ) → (lease ≡ 0 → ⊥) → asked ≡ key
       → IsValueAt (entries_of checked) start asked (option_map f o)
       → is_some o ≡ not none → none ≡ (not (lease == 0) && not (has_lease entries lease))
-  lacks f o none asked more is found told =
+  lacks f o none asked more is found reported =
       grind (arith, looked_up (option_map f o) (rw is at found))
 
 -- ---- for whatever leases there are

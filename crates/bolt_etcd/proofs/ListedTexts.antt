@@ -1,11 +1,11 @@
 -- Lines are written, and they are counted.
-use Rattle.std.proofs.Common.{◌≡◌, ◌∙◌, ◌<◌, ◌+◌, ◌++◌, ◌^◌, ℕ, List, [], ◌∷◌, append-nil, drop, get_or, length, length-append, map, refl}
+use Rattle.std.proofs.Common.{◌≡◌, ◌∙◌, ◌<◌, ◌+◌, ◌++◌, ◌^◌, ℕ, List, [], ◌∷◌, append-nil, drop, get_or, length, length-append, map}
 use Rattle.std.proofs.Common.{sym, ap, arith}
 use Rattle.std.proofs.{lemmas.List.drop_more, lemmas.List.Folds.concat-append}
 use Rattle.std.specs.{List.concat, Result.IsErrAnd}
 use Rattle.std.specs.Prelude.{IsErr, Result}
 use Rattle.bolt_check.specs.Counts.{counted}
-use Rattle.bolt_format.proofs.Exports.{WroteFront, front_more, front_none, front_whole, Wrote-same}
+use Rattle.bolt_format.proofs.Exports.{WroteFront, front_more, front_whole, Wrote-same}
 use Rattle.bolt_format.specs.{Endings.broken, Endings.ending, Endings.whole, Wrote.Wrote, declared.sink.Sink.Ghosts}
 use Rattle.bolt_format.specs.{declared.sink.SinkFault.SinkFault}
 use Rattle.bolt_text.proofs.Exports.{Wrote-fault, front_broken}
@@ -18,9 +18,6 @@ pub record Listed {S : Type 0} (sink : Ghosts S) (old new : S) (all left : List 
   pub put : WroteFront sink old new (concat all) (concat left)
   pub number : counted n (length left) ≡ counted 0 (length all)
   pub fits : n < 2 ^ 64
-
-pub listed_none : {S : Type 0} {sink : Ghosts S} (old : S) (all left : List (List ℕ)) → left ≡ all → Listed sink old old all left 0
-listed_none old all left same = rw same (record { put = front_none old (concat all); number = refl; fits = omega arith })
 
 module _ {S : Type 0} {sink : Ghosts S} {old mid : S} {all left : List (List ℕ)} {n : ℕ} (listed : Listed sink old mid all left n) where
   -- some lines more,

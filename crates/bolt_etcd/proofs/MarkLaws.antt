@@ -1,7 +1,7 @@
 -- A mark is a record without fields, and no revision.
 use Rattle.std.proofs.Common.{arith, ◌≡◌, ◌∙◌, ℕ, true, List, [], ◌==◌, length, not, Option, Some, None, refl, ap}
 use Rattle.std.proofs.{lemmas.Bool.and_parts, lemmas.Bool.cond-true, lemmas.Bool.eqb-true, lemmas.Bool.not-true, lemmas.List.nil_from_length}
-use Rattle.bolt_etcd.specs.{Wire.Numbered.numbered_in, Wire.Others.other_at, Wire.Others.other_by, Wire.Records.empty, Wire.Records.record_of}
+use Rattle.bolt_etcd.specs.{Wire.Numbered.numbered_in, Wire.UnreadEntries.other_at, Wire.UnreadEntries.other_by, Wire.Records.empty, Wire.Records.record_of}
 use Rattle.bolt_etcd.specs.{Wire.RevisionKeys.revision_key, Wire.RevisionKeys.is_mark}
 use Rattle.bolt_etcd.specs.{Wire.Revisions.revision_in, declared.wire.revision_key.RevisionKey.RevisionKey}
 

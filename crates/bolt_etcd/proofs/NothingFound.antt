@@ -15,7 +15,7 @@ use Rattle.bolt_etcd.specs.{Histories.Transactions.Transaction, Histories.Transa
 use Rattle.bolt_etcd.specs.{Check.Misplaced.is_misplaced, Check.Misplaced.misplaced}
 use Rattle.bolt_etcd.specs.{Check.MissingNumbers.is_of_later, Check.MissingNumbers.keys_above, Check.MissingNumbers.missing_after}
 use Rattle.bolt_etcd.specs.{Check.MissingNumbers.missing_numbers, Check.NameFaults.name_faults, Wire.Numbered.numbered, Wire.Numbered.numbered_of}
-use Rattle.bolt_etcd.specs.{Wire.Others.OtherView, Wire.Others.others_of, Wire.Revisions.RevisionView, Wire.Revisions.revision_of}
+use Rattle.bolt_etcd.specs.{Wire.UnreadEntries.UnreadView, Wire.UnreadEntries.others_of, Wire.Revisions.RevisionView, Wire.Revisions.revision_of}
 use Rattle.bolt_etcd.specs.{Histories.Possible.ArePossible, Store.StoreBuckets.StoreView, Store.Stores.revisions}
 use Rattle.bolt_etcd.specs.Histories.WholeStores.{GrantsLeases, HoldsExactly}
 use Rattle.bolt_etcd.specs.Check.StoreFaults.{missing_bucket_lines, entry_lines, key_lines, line_without, name_lines, store_granted}
@@ -59,7 +59,7 @@ no_others (e ∷ entries) [] are = cc
 no_others (e ∷ entries) (r ∷ rs) are =
     let first : revision_of (entry_view e) ≡ Some r = cc in
     let later : map (λ (f : LeafElement). revision_of (entry_view f)) entries ≡ map Some rs = cc in
-    ap (λ (o : Option OtherView). cons_option o (others_of entries)) (no_other (entry_view e) r first) ∙ no_others entries rs later
+    ap (λ (o : Option UnreadView). cons_option o (others_of entries)) (no_other (entry_view e) r first) ∙ no_others entries rs later
 
 -- ---- what holds of each revision
 

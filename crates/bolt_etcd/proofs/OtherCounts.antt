@@ -5,7 +5,7 @@ use Rattle.std.specs.{List.cons_option, Option.is_some, Option.option_to_list}
 use Rattle.bolt_check.specs.{Counts.counted, Keys.Key}
 use Rattle.bolt_format.specs.Elements.{LeafElement}
 use Rattle.bolt_tree.specs.Entries.{EntryView, entry_view}
-use Rattle.bolt_etcd.specs.{Wire.Numbered.numbered_of, Wire.Others.OtherView, Wire.Others.other_of, Wire.Others.others_of, Wire.Records.RecordView}
+use Rattle.bolt_etcd.specs.{Wire.Numbered.numbered_of, Wire.UnreadEntries.UnreadView, Wire.UnreadEntries.other_of, Wire.UnreadEntries.others_of, Wire.Records.RecordView}
 use Rattle.bolt_etcd.specs.{Wire.Revisions.RevisionView, Wire.Revisions.record_content, Wire.Revisions.revision_of, Store.Stores.others}
 use Rattle.bolt_etcd.specs.{Wire.Fields.◌>>=◌}
 use Rattle.bolt_etcd.specs.declared.wire.revision_key.RevisionKey.{RevisionKey}
@@ -24,7 +24,7 @@ pub is_numbered : (e : EntryView) (r : RevisionView) → revision_of e ≡ Some 
 unfolding revision_of numbered_of
 is_numbered e r is = grind arith
 
-none_of : (o : Option OtherView) → is_some o ≡ false → o ≡ None
+none_of : (o : Option UnreadView) → is_some o ≡ false → o ≡ None
 none_of o none = grind arith
 
 pub no_other : (e : EntryView) (r : RevisionView) → revision_of e ≡ Some r → other_of e ≡ None
@@ -32,7 +32,7 @@ no_other e r is = none_of (other_of e) (one_of_two e ∙ ap (λ (o : Option Revi
 
 -- ---- how many there are
 
-step : (e : LeafElement) (o : Option OtherView) (xs : List OtherView) (es : List LeafElement) → length xs ≡ length es
+step : (e : LeafElement) (o : Option UnreadView) (xs : List UnreadView) (es : List LeafElement) → length xs ≡ length es
     → length (cons_option o xs) ≡ length (cond (is_some o) (e ∷ es) es)
 step e o xs es same = grind arith
 
@@ -40,7 +40,7 @@ pub as_many : (entries : List LeafElement) → length (others_of entries) ≡ le
 as_many [] = refl
 as_many (e ∷ entries) = step e (other_of (entry_view e)) (others_of entries) (others entries) (as_many entries)
 
-pub one_more : (e : LeafElement) (o : Option OtherView) (es : List LeafElement)
+pub one_more : (e : LeafElement) (o : Option UnreadView) (es : List LeafElement)
     → length (cond (is_some o) (e ∷ es) es) ≡ length (option_to_list o) + length es
 one_more e o es = grind arith
 

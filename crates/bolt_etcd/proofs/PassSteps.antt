@@ -1,12 +1,11 @@
 -- A pass goes over entries of which something shows nothing, up to the next one of which it shows something.
-use Rattle.std.proofs.Common.{◌≡◌, ◌∙◌, ◌<◌, ◌≤◌, List, [], Option, Some, None, arith}
+use Rattle.std.proofs.Common.{◌≡◌, ◌∙◌, ◌<◌, ◌≤◌, List, Option, Some, None, arith}
 use Rattle.std.specs.List.{cons_option, filter_map}
 use Rattle.bolt_format.specs.Elements.{LeafElement}
 use Rattle.bolt_tree.specs.Entries.{EntryView, entry_view}
 use Rattle.bolt_etcd.specs.{Private.Passes.ShowsFirst, Store.RevisionsLeft.ForPass, Store.RevisionsLeft.ahead_of, Store.RevisionsLeft.number_ahead}
 use Rattle.bolt_etcd.specs.{Store.RevisionsLeft.pass_checked, Store.RevisionsLeft.pass_start}
 use Rattle.bolt_etcd.specs.declared.store.revisions.Revisions.{Revisions}
-use Rattle.bolt_etcd.proofs.RevisionSteps.{moved_to}
 
 module _ {X : Type 0} (shown_of : EntryView → Option X) where
   abbrev all_shown : List LeafElement → List X
@@ -22,9 +21,6 @@ module _ {X : Type 0} (shown_of : EntryView → Option X) where
   module _ (old here next : Revisions) (x : Option EntryView) (goes : GoesBy old here) (checked : pass_checked next ≡ pass_checked here)
       (start : pass_start next ≡ pass_start here)
       (first : ForPass here (λ entries. ShowsFirst (ahead_of here entries) (ahead_of next entries) x)) where
-    first_here : ForPass old (λ entries. ShowsFirst (ahead_of here entries) (ahead_of next entries) x)
-    first_here = moved_to _ _ _ _ (λ entries. ShowsFirst (ahead_of here entries) (ahead_of next entries) x) goes.checked goes.start first
-
     -- one that shows something is the first of those that do
     pub one_shown : (v : EntryView) (o : Option X) → x ≡ Some v → shown_of v ≡ o
         → ForPass old (λ entries. all_shown (ahead_of old entries) ≡ cons_option o (all_shown (ahead_of next entries)))
@@ -37,6 +33,3 @@ module _ {X : Type 0} (shown_of : EntryView → Option X) where
       same = one_shown v None is found;
       behind = let before = goes.behind in omega (arith, less, before);
     }
-
-    pub none_shown : x ≡ None → ForPass old (λ entries. (all_shown (ahead_of old entries) ≡ []) × (ahead_of next entries ≡ []))
-    none_shown is entries are = grind arith

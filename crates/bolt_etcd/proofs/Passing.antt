@@ -10,7 +10,7 @@ use Rattle.bolt_tree.specs.{Entries.entry_view}
 use Rattle.bolt_tree.specs.{EntriesLeft.entries_left, FileTrees.file_entries, Places.Past, Places.Place, Places.least_from, Places.next_move}
 use Rattle.bolt_tree.specs.{Places.place_in, Places.seek_move}
 use Rattle.bolt_tree.specs.{declared.cursor.Cursor.Cursor}
-use Rattle.bolt_etcd.specs.{Wire.Others.OtherView, Wire.Others.other_of, Private.Passes.ShowsFirst, Wire.Revisions.RevisionView}
+use Rattle.bolt_etcd.specs.{Wire.UnreadEntries.UnreadView, Wire.UnreadEntries.other_of, Private.Passes.ShowsFirst, Wire.Revisions.RevisionView}
 use Rattle.bolt_etcd.specs.{Wire.Revisions.revision_of, Store.Stores.entries_from, Store.Stores.others, Store.Stores.revisions}
 use Rattle.bolt_etcd.proofs.OtherCounts.{no_other, one_more}
 
@@ -63,9 +63,9 @@ gives old new v r (e, shown, first) is = ap revisions first ∙ passed (revision
 pub passes : (old new : List LeafElement) (v : EntryView) → ShowsFirst old new (Some v) → revision_of v ≡ None → revisions old ≡ revisions new
 passes old new v (e, shown, first) is = ap revisions first ∙ ap (λ (o : Option RevisionView). cons_option o (revisions new)) (sym (ap revision_of shown) ∙ is)
 
-others_if : (o x : Option OtherView) (e : LeafElement) (rest : List LeafElement) → o ≡ x
+others_if : (o x : Option UnreadView) (e : LeafElement) (rest : List LeafElement) → o ≡ x
     → cond (is_some o) (e ∷ rest) rest ≡ cond (is_some x) (e ∷ rest) rest
-others_if o x e rest is = ap (λ (z : Option OtherView). cond (is_some z) (e ∷ rest) rest) is
+others_if o x e rest is = ap (λ (z : Option UnreadView). cond (is_some z) (e ∷ rest) rest) is
 
 pub counts_none : (old new : List LeafElement) (v : EntryView) (r : RevisionView) → ShowsFirst old new (Some v) → revision_of v ≡ Some r
     → others old ≡ others new

@@ -8,9 +8,10 @@ use Rattle.bolt_tree.proofs.Exports.{counted_more}
 use Rattle.bolt_tree.specs.{Buckets.bucket_checked, Buckets.bucket_start, Entries.EntryView, Entries.Start, EntriesLeft.ForEntries}
 use Rattle.bolt_tree.specs.{EntriesLeft.ForBucket, FileTrees.file_entries}
 use Rattle.bolt_tree.specs.declared.bucket.Bucket.{Bucket}
-use Rattle.bolt_etcd.specs.{Wire.Others.other_of, Private.Passes.ShowsFirst, Wire.Revisions.RevisionView, Wire.Revisions.revision_of}
+use Rattle.bolt_etcd.specs.{Wire.UnreadEntries.other_of, Private.Passes.ShowsFirst, Wire.Revisions.RevisionView, Wire.Revisions.revision_of}
 use Rattle.bolt_etcd.specs.{Store.Stores.others, Store.Stores.revisions}
-use Rattle.bolt_etcd.specs.Store.RevisionsLeft.{CountsOthers, ForPass, GivesFirst, OpensOne, ahead_of, begins_with_other, number_ahead, pass_checked}
+use Rattle.bolt_etcd.specs.Store.RevisionsLeft.{CountsOthers, ForPass, GivesFirst, OpensOne, ahead_of, begins_with_other, number_ahead}
+use Rattle.bolt_etcd.specs.Store.RevisionsLeft.{pass_checked, pass_viewers}
 use Rattle.bolt_etcd.specs.Store.RevisionsLeft.{pass_entries, pass_others, pass_start}
 use Rattle.bolt_etcd.specs.declared.store.revisions.Revisions.{Revisions}
 use Rattle.bolt_etcd.proofs.Passing.{are_entries, counts_none, counts_one, fewer, gives, passes}
@@ -54,7 +55,7 @@ module _ (old here next : Revisions) (x : Option EntryView) (goes : Goes old her
   pub goes_on : (v : EntryView) (n : ℕ) → x ≡ Some v → revision_of v ≡ None → pass_checked next ≡ pass_checked here
       → pass_start next ≡ pass_start here
       → n ≡ counted (pass_others here) (length (option_to_list (other_of v))) → Goes old (with_others next n)
-  unfolding ahead_of pass_checked pass_others pass_start
+  unfolding pass_viewers
   goes_on v n is other file start more = record {
     checked = file ∙ goes.checked;
     start = start ∙ goes.start;

@@ -5,7 +5,7 @@ use Rattle.std.proofs.lemmas.Cmp.{nat_list_cmp_total, on_total}
 use Rattle.std.specs.{List.dedup, Ordering.is_lt}
 use Rattle.bolt_lemmas.proofs.Exports.{sorted_exists}
 use Rattle.bolt_lemmas.specs.Order.{Rises}
-use Rattle.bolt_etcd.specs.{Store.Current.AreCurrent, Store.Current.AreNewest, Store.Current.HaveOwnKeys, Store.Current.is_there}
+use Rattle.bolt_etcd.specs.{Store.Current.AreCurrent, Store.Current.AreCurrentBySum, Store.Current.HaveOwnKeys, Store.Current.is_there}
 use Rattle.bolt_etcd.specs.{Check.NameFaults.AreByName, Check.NameFaults.by_name_cmp}
 use Rattle.bolt_etcd.specs.Store.Orders.{name_cmp, newest_by_sum_cmp, stored_key_cmp, sums_cmp}
 use Rattle.bolt_etcd.specs.{Wire.Revisions.RevisionView, Wire.Revisions.name_of}
@@ -25,7 +25,7 @@ pub by_name_is_one : (rs : List RevisionView) → Rises stored_key_cmp rs
 by_name_is_one rs rises = let (all, are) = by_name_exists rs in (all, are, λ other also. by_name_once rs other all rises also are)
 
 -- the newest of each name
-pub newest_exists : (rs : List RevisionView) → (found : List RevisionView) × (HaveOwnKeys rs → AreNewest rs found)
+pub newest_exists : (rs : List RevisionView) → (found : List RevisionView) × (HaveOwnKeys rs → AreCurrentBySum rs found)
 newest_exists rs =
     let (sorted, same, up) =
     sorted_exists (λ (a b : RevisionView). is_lt (newest_by_sum_cmp a b))

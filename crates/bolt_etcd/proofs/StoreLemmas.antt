@@ -1,9 +1,9 @@
 -- What look-ups in the root bucket say of a store.
-use Rattle.std.proofs.Common.{arith, ◌≡◌, ◌∙◌, ◌++◌, Bool, true, false, ℕ, List, [], flat_map, not, Option, Some, None}
+use Rattle.std.proofs.Common.{arith, ◌≡◌, ◌∙◌, ◌++◌, Bool, true, false, ℕ, List, flat_map, not, Option, Some, None}
 use Rattle.std.proofs.Common.{refl, sym, ap, subst}
 use Rattle.std.proofs.{Math.Logic.∥∥₁_elim, Props.props, lemmas.Bool.and_from, lemmas.Bool.and_parts, lemmas.Bool.not-true}
 use Rattle.std.proofs.{lemmas.Slice.Eq.bytes_eq-Decides}
-use Rattle.std.specs.{Cmp.Lexicographic.same_text, List.concat, List.find, Option.is_some, Option.option_map, Str.bytes_eq}
+use Rattle.std.specs.{Cmp.Lexicographic.same_text, List.concat, List.find, Option.option_map, Str.bytes_eq}
 use Rattle.std.specs.Prelude.{IfSome}
 use Rattle.bolt_lemmas.proofs.Exports.{Finds, concat_three, finds}
 use Rattle.bolt_lemmas.specs.Order.{Rises}
@@ -20,7 +20,7 @@ use Rattle.bolt_etcd.specs.{Check.ForNames.ForGranted, Private.FaultsLeft.faults
 use Rattle.bolt_etcd.specs.{Check.NameFaults.NameFaultView, Check.NameFaults.name_faults, Wire.Revisions.RevisionView}
 use Rattle.bolt_etcd.specs.{Store.StoreBuckets.HasEntriesUnder, Store.StoreBuckets.IsStore, Store.StoreBuckets.StoreView}
 use Rattle.bolt_etcd.specs.{Store.StoreBuckets.revisions_in, Store.Stores.revisions}
-use Rattle.bolt_etcd.specs.Check.StoreFaults.{missing_bucket_lines, entry_lines, granted_in, key_lines, line_without, name_lines}
+use Rattle.bolt_etcd.specs.Check.StoreFaults.{missing_bucket_lines, entry_lines, granted_in, key_lines, name_lines}
 use Rattle.bolt_etcd.specs.Check.StoreFaults.{store_compacted, store_granted, store_lines}
 use Rattle.bolt_etcd.specs.declared.check.name_faults.NameFaults.{NameFaults}
 use Rattle.bolt_etcd.specs.Store.BucketNames.{bucket_names, key_bucket, lease_bucket}
@@ -83,9 +83,6 @@ module _ (root : Bucket) where
       let start : bucket_start inner ≡ start_of e.value = ∥∥₁_elim found (hlevel props) (λ (f, is, at, kind, begins, numbered).
       begins ∙ ap (λ (x : LeafElement). start_of x.value) (once f e is there (at ∙ sym key))) in
       subst (λ (s : Start). AreEntries (entries_of (bucket_checked root)) s entries) (sym start) are
-
-  pub no_line : (name : Key) (o : Option Bucket) (b : Option (List LeafElement)) → Fits o b → is_some o ≡ true → line_without name b ≡ []
-  no_line name o b has is = grind arith
 
   pub fits_none : (b : Option (List LeafElement)) → Fits None b → b ≡ None
   fits_none b has = grind arith

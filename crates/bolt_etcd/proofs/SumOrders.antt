@@ -1,29 +1,14 @@
 -- Revisions sorted by the sums of their names, as they are shown.
-use Rattle.std.proofs.Common.{◌≡◌, ◌∙◌, ℕ, Bool, List, ap, map, nat_cmp, sym}
+use Rattle.std.proofs.Common.{Bool, List, map}
 use Rattle.std.proofs.{lemmas.List.MinMax.ranks_by, lemmas.List.Sorted.IsPermutation-map}
-use Rattle.std.specs.{Cmp.IsStrictWeakOrder, List.Sorted.IsPermutation, List.Sorted.IsSortedBy, Ordering.is_lt, Ordering.ordering_then}
+use Rattle.std.specs.{Cmp.IsStrictWeakOrder, List.Sorted.IsPermutation, List.Sorted.IsSortedBy, Ordering.is_lt}
 use Rattle.std.specs.{declared.cmp.Ordering.Ordering}
-use Rattle.std.specs.declared.cmp.Ordering.TheVariants.{Equal}
 use Rattle.bolt_lemmas.proofs.Exports.{sorted_mapped}
-use Rattle.bolt_check.specs.Keys.{key_cmp}
 use Rattle.bolt_etcd.specs.{Wire.Revisions.RevisionView, Wire.Revisions.name_of}
-use Rattle.bolt_etcd.specs.Store.Orders.{AreSortedBy, by_sum_cmp, name_sum, newest_by_sum_cmp, sums_cmp}
+use Rattle.bolt_etcd.specs.Store.Orders.{AreSortedBy, by_sum_cmp, newest_by_sum_cmp, sums_cmp}
 use Rattle.bolt_etcd.specs.{Wire.ShownRevisions.shown_revision}
 use Rattle.bolt_etcd.specs.{declared.wire.revision.Revision.Revision}
 use Rattle.bolt_etcd.proofs.{NameOrders.sums_tie, NameOrders.sums_total, NewestOfNames.newest_ranks, SortedOnce.named_total}
-
--- ---- sums decide, or else names
-
-module _ (a b : Revision) where
-  abbrev name_a : List ℕ
-  name_a = name_of (shown_revision a)
-
-  abbrev name_b : List ℕ
-  name_b = name_of (shown_revision b)
-
-  pub by_names : (o p : Ordering) → o ≡ nat_cmp (name_sum name_a) (name_sum name_b) → o ≡ Equal → p ≡ key_cmp name_a name_b
-      → p ≡ sums_cmp name_a name_b
-  by_names o p is tied names = names ∙ sym (ap (λ (q : Ordering). ordering_then q (key_cmp name_a name_b)) (sym is ∙ tied))
 
 -- ---- sorted so
 

@@ -1,4 +1,4 @@
--- A revision that is taken away from a store is told as missing by its numbers.
+-- A revision that is taken away from a store is reported as missing by its numbers.
 use Rattle.std.proofs.Common.{◌≡◌, ◌<◌, ◌++◌, ℕ, Bool, List, ◌∷◌, inl, inr, sym, subst, arith}
 use Rattle.std.proofs.{lemmas.Cmp.nat_cmp_total, lemmas.Cmp.tied_itself, lemmas.List.Elements.Contains-append_cases}
 use Rattle.std.proofs.{lemmas.List.Elements.Contains-append_right}
@@ -9,9 +9,10 @@ use Rattle.bolt_etcd.specs.{Histories.Compactions.kept_revisions, Histories.Tran
 use Rattle.bolt_etcd.specs.Store.Orders.{stored_key_cmp}
 use Rattle.bolt_etcd.specs.{Histories.Transactions.history, Histories.Transactions.nothing, Check.MissingNumbers.missing_numbers}
 use Rattle.bolt_etcd.specs.{Wire.Revisions.RevisionView}
-use Rattle.bolt_etcd.specs.{Histories.Possible.ArePossible, Histories.Taken.IsTaken, Histories.Told.IsTold, Histories.ToldRevisions.IsToldRevision}
+use Rattle.bolt_etcd.specs.{Histories.Possible.ArePossible, Histories.Taken.IsTaken, Histories.Reported.IsReported}
+use Rattle.bolt_etcd.specs.{Histories.ReportedRevisions.IsReportedRevision}
 use Rattle.bolt_etcd.proofs.HistorySteps.{from, goes, history_rises, numbers_rise, pair_cmp, stored_keys_rise}
-use Rattle.bolt_etcd.proofs.{MissingExact.missing_told, RevisionsExact.revisions_told}
+use Rattle.bolt_etcd.proofs.{MissingExact.missing_reported, RevisionsExact.revisions_reported}
 
 apart : (a b : RevisionView) → pair_cmp a b ≡ Less → a.key.main ≡ b.key.main → a.key.sub ≡ b.key.sub → ⊥
 apart a b less main sub = let tied = rw (main, sub, tied_itself nat_cmp_total b.key.main, tied_itself nat_cmp_total b.key.sub) at less in cc
@@ -36,18 +37,18 @@ module _ (compacted : ℕ) (ts : List Transaction) (keeps : RevisionView → Boo
       let here = Contains-append_right is.before (r ∷ is.after) r (contains_head r is.after) in
       (kept_from keeps (history ts) r (subst (λ (l : List RevisionView). Contains l r) (sym is.there) here)).0
 
-  pub told_by_number : (later : RevisionView) → Contains left later → later.key.main ≡ r.key.main → r.key.sub < later.key.sub
-      → IsToldRevision r.key.main r.key.sub (missing_numbers compacted left)
-  told_by_number later has same lt =
-      (revisions_told r.key.main r.key.sub compacted left (numbers_rise left left_rises)).1
+  pub reported_by_number : (later : RevisionView) → Contains left later → later.key.main ≡ r.key.main → r.key.sub < later.key.sub
+      → IsReportedRevision r.key.main r.key.sub (missing_numbers compacted left)
+  reported_by_number later has same lt =
+      (revisions_reported r.key.main r.key.sub compacted left (numbers_rise left left_rises)).1
       (record { after = is.above; later = later; there = has; same = same; before = lt; none = not_left })
 
-  pub told_by_transaction : (later : RevisionView) → Contains left later → r.key.main < later.key.main
+  pub reported_by_transaction : (later : RevisionView) → Contains left later → r.key.main < later.key.main
       → ((x : RevisionView) → Contains left x → x.key.main ≡ r.key.main → ⊥)
-      → IsTold r.key.main (missing_numbers compacted left)
-  told_by_transaction later has lt none =
+      → IsReported r.key.main (missing_numbers compacted left)
+  reported_by_transaction later has lt none =
       let above = is.above in
-      (missing_told compacted r.key.main left (numbers_rise left left_rises)).1
+      (missing_reported compacted r.key.main left (numbers_rise left left_rises)).1
       (record {
         after = elim (from nothing 2 0 (history ts) (goes ts possible) r there) [
           | inl up ↦ omega (arith, above, up)

@@ -10,7 +10,7 @@ use Rattle.bolt_etcd.specs.Histories.Transactions.{Delete, Put, State, Transacti
 use Rattle.bolt_etcd.specs.{Check.NameFaults.AreByName, Check.NameFaults.NameFaultView, Check.NameFaults.fault_of, Check.NameFaults.name_faults}
 use Rattle.bolt_etcd.specs.{Store.Newest.is_named, Store.Newest.newest, Store.Newest.value_if}
 use Rattle.bolt_etcd.specs.{Wire.Revisions.RevisionView, Wire.Revisions.name_of, Histories.Possible.ArePossible, Histories.Taken.IsShownBy}
-use Rattle.bolt_etcd.specs.{Histories.Taken.IsTaken, Histories.Taken.TellsOneBefore, Histories.Told.number_cmp}
+use Rattle.bolt_etcd.specs.{Histories.Taken.IsTaken, Histories.Taken.ReportsOneBefore, Histories.Reported.number_cmp}
 use Rattle.bolt_etcd.proofs.{HistorySteps.IsWritten, HistorySteps.each, HistorySteps.goes, HistorySteps.numbers_rise, StoreLemmas.itself}
 use Rattle.bolt_etcd.proofs.{WholeNames.IsOwn, WholeNames.LaterFollow, WholeNames.kept_follow, WholeNames.own_before, FaultsOfNames.faults_named}
 use Rattle.bolt_etcd.proofs.MissingExact.{main_le}
@@ -150,7 +150,7 @@ module _ (compacted : ℕ) (ts : List Transaction) (keeps : RevisionView → Boo
         let own = own_before (name_of r) (last_or None earlier) next (own_last (last_or None earlier) refl) its_next.3 in
         and_from _ _ (lt-ltb compacted next.key.main above) (ap not (ap (λ (o : Option RevisionView). follows o next) own ∙ not_follows))
 
-    pub fault_found : (by_name : List RevisionView) → AreByName left by_name → TellsOneBefore next (name_faults (Some compacted) granted None by_name)
+    pub fault_found : (by_name : List RevisionView) → AreByName left by_name → ReportsOneBefore next (name_faults (Some compacted) granted None by_name)
     fault_found by_name sorted =
         let here = fault_in (Some compacted) granted None earlier next later is_missing in
         let all =

@@ -12,7 +12,7 @@ use Rattle.bolt_etcd.specs.{Histories.Transactions.Transaction, Histories.Transa
 use Rattle.bolt_etcd.specs.{Histories.Transactions.nothing, Check.MissingNumbers.is_of_later}
 use Rattle.bolt_etcd.specs.{Check.NameFaults.before_of, Check.NameFaults.is_newest, Check.NameFaults.lacks_lease, Check.NameFaults.lacks_one_before}
 use Rattle.bolt_etcd.specs.{Check.NameFaults.name_faults, Store.Newest.is_named, Store.Newest.newest}
-use Rattle.bolt_etcd.specs.{Wire.Revisions.RevisionView, Wire.Revisions.name_of, Histories.Possible.ArePossible, Histories.Told.number_cmp}
+use Rattle.bolt_etcd.specs.{Wire.Revisions.RevisionView, Wire.Revisions.name_of, Histories.Possible.ArePossible, Histories.Reported.number_cmp}
 use Rattle.bolt_etcd.proofs.{HistorySteps.IsWritten, HistorySteps.each, HistorySteps.goes, HistorySteps.history_rises, HistorySteps.numbers_rise}
 use Rattle.bolt_etcd.proofs.{KeptOfNames.IsCut, KeptOfNames.cut}
 use Rattle.bolt_etcd.proofs.MissingExact.{main_le}

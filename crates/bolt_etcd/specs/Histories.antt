@@ -3,8 +3,8 @@ pub mod Compactions
 pub mod FewTransactions
 pub mod ForHistories
 pub mod Possible
+pub mod Reported
+pub mod ReportedRevisions
 pub mod Taken
-pub mod Told
-pub mod ToldRevisions
 pub mod Transactions
 pub mod WholeStores

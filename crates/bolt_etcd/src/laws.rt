@@ -9,15 +9,15 @@ ghost use Rattle.bolt_etcd.specs.{Store.Crc32c.crc_of, Store.HashKv.hash_kv, Wir
 ghost use Rattle.bolt_etcd.specs.{Store.Current.AreCurrent, Check.NameFaults.AreByName, Check.NameFaults.name_faults};
 ghost use Rattle.bolt_etcd.specs.Store.Orders.{stored_key_cmp};
 ghost use Rattle.bolt_etcd.specs.{Store.StoreBuckets.IsStore, Store.StoreBuckets.StoreView};
-ghost use Rattle.bolt_etcd.specs.{Wire.Revisions.RevisionView, Histories.Told.IsMissing, Histories.Told.IsTold};
+ghost use Rattle.bolt_etcd.specs.{Wire.Revisions.RevisionView, Histories.Reported.IsMissing, Histories.Reported.IsReported};
 ghost use Rattle.bolt_etcd.specs.{Histories.Compactions.etcd_keeps, Histories.Transactions.history, Histories.FewTransactions.deletion_of_a};
 ghost use Rattle.bolt_etcd.specs.{Histories.FewTransactions.first_a, Histories.FewTransactions.first_b, Histories.FewTransactions.second_a};
 ghost use Rattle.bolt_etcd.specs.{Histories.FewTransactions.second_b, Histories.FewTransactions.few_transactions};
 ghost use Rattle.bolt_etcd.specs.{Histories.Transactions.AreOfState, Histories.Transactions.state_at, Store.Newest.until, Histories.Taken.IsShownBy};
-ghost use Rattle.bolt_etcd.specs.{Histories.Taken.IsTaken, Histories.Taken.TellsOneBefore, Histories.ToldRevisions.IsMissingRevision};
-ghost use Rattle.bolt_etcd.specs.{Histories.ToldRevisions.IsToldRevision};
-ghost use Rattle.bolt_etcd.specs.{Wire.Numbered.ForMarks, Wire.Numbered.numbered_in, Wire.Numbered.numbered_of, Wire.Others.other_by};
-ghost use Rattle.bolt_etcd.specs.{Wire.Others.other_of, Wire.Others.others_of, Wire.Records.empty, Wire.Revisions.revision_in};
+ghost use Rattle.bolt_etcd.specs.{Histories.Taken.IsTaken, Histories.Taken.ReportsOneBefore, Histories.ReportedRevisions.IsMissingRevision};
+ghost use Rattle.bolt_etcd.specs.{Histories.ReportedRevisions.IsReportedRevision};
+ghost use Rattle.bolt_etcd.specs.{Wire.Numbered.ForMarks, Wire.Numbered.numbered_in, Wire.Numbered.numbered_of, Wire.UnreadEntries.other_by};
+ghost use Rattle.bolt_etcd.specs.{Wire.UnreadEntries.other_of, Wire.UnreadEntries.others_of, Wire.Records.empty, Wire.Revisions.revision_in};
 ghost use Rattle.bolt_etcd.specs.{Wire.Revisions.revision_of, Store.Stores.others};
 ghost use Rattle.bolt_etcd.specs.{Wire.RevisionKeys.IsSpelled, Wire.RevisionKeys.numbers_cmp, Wire.RevisionKeys.revision_key};
 ghost use Rattle.bolt_etcd.specs.{Wire.RevisionKeys.spelling, Wire.Fields.field_and_later, Wire.Fields.fields};
@@ -27,7 +27,7 @@ ghost use Rattle.bolt_etcd.specs.{Histories.Possible.ArePossible, Check.StoreFau
 ghost use Rattle.bolt_etcd.specs.{Histories.WholeStores.HoldsExactly};
 ghost use Rattle.bolt_etcd.specs.Histories.ForHistories.{ForCompacted, ForTaken, ForNumbered};
 ghost use Rattle.bolt_etcd.specs.Store.Current.{IsOne};
-ghost use Rattle.bolt_etcd.specs.Histories.Told.{HasNoneOf};
+ghost use Rattle.bolt_etcd.specs.Histories.Reported.{HasNoneOf};
 ghost use Rattle.bolt_tree.specs.Laws.{ForBuckets};
 ghost use Rattle.bolt_text.specs.{Lines.line};
 ghost use Rattle.std.specs.Prelude.{◌+◌, ◌%◌, ◌++◌, take};
@@ -80,12 +80,12 @@ pub fn a_mark_has_a_number_alone()
         ≡ Some (record { stored_key = key; key = k; content = empty })) }
 {}
 
-/// If revisions are in the order of their numbers, the missing numbers tell that a transaction is
+/// If revisions are in the order of their numbers, the missing numbers report that a transaction is
 /// missing exactly if it is: it is after the compaction, a later one is there, and none of its
 /// revisions is.
-pub fn missing_transactions_are_told_exactly()
+pub fn missing_transactions_are_reported_exactly()
     ensures { ForNumbered (λ compacted rs missing. (t : ℕ)
-        → IsTold t missing ↔ IsMissing compacted t rs) }
+        → IsReported t missing ↔ IsMissing compacted t rs) }
 {}
 
 /// Revisions in the order of their keys have one order by name, and there is one list of the keys
@@ -104,12 +104,12 @@ pub fn a_root_bucket_has_one_store()
         × (other.by_name ≡ store.by_name))) }
 {}
 
-/// If revisions are in the order of their numbers, the missing numbers tell that a revision of a
+/// If revisions are in the order of their numbers, the missing numbers report that a revision of a
 /// transaction is missing exactly if it is: its transaction is after the compaction, a later revision
 /// of that is there, and it isn't.
-pub fn missing_revisions_are_told_exactly()
+pub fn missing_revisions_are_reported_exactly()
     ensures { ForNumbered (λ compacted rs missing. (t sub : ℕ)
-        → IsToldRevision t sub missing ↔ IsMissingRevision compacted t sub rs) }
+        → IsReportedRevision t sub missing ↔ IsMissingRevision compacted t sub rs) }
 {}
 
 /// An example of a few transactions: the revisions that they make, what a name holds after each, and
@@ -155,14 +155,14 @@ pub fn nothing_is_found_in_a_whole_store()
 pub fn a_revision_that_is_taken_away_is_found()
     ensures by_number { ForTaken (λ r later rs missing.
         later.key.main ≡ r.key.main → r.key.sub < later.key.sub
-        → IsToldRevision r.key.main r.key.sub missing) }
+        → IsReportedRevision r.key.main r.key.sub missing) }
     ensures by_transaction { ForTaken (λ r later rs missing.
-        r.key.main < later.key.main → HasNoneOf r.key.main rs → IsTold r.key.main missing) }
+        r.key.main < later.key.main → HasNoneOf r.key.main rs → IsReported r.key.main missing) }
     ensures by_name { ForCompacted (λ ts compacted rs.
         (r next : RevisionView) (left by_name : List RevisionView)
         → (is : IsTaken compacted rs r left) → AreByName left by_name
         → IsShownBy next r is.before is.after → (granted : ℕ → Bool)
-        → TellsOneBefore next (name_faults (Some compacted) granted None by_name)) }
+        → ReportsOneBefore next (name_faults (Some compacted) granted None by_name)) }
 {}
 
 /// The keys that there are in such a store at a transaction, if it isn't before the compaction, are

@@ -7,6 +7,7 @@ pub mod laws;
 mod store;
 mod wire;
 
+pub use crate::check::check_lines::put_unread_entry;
 pub use crate::check::missing::{Missing, MissingNumbers};
 pub use crate::check::name_faults::{NameFault, NameFaults};
 pub use crate::check::snapshot::{HASH_LEN, SnapshotFault, snapshot_fault};
@@ -20,7 +21,7 @@ pub use crate::store::newest::Newest;
 pub use crate::store::revision_list::RevisionList;
 pub use crate::store::revisions::Revisions;
 pub use crate::store::status::StoreStatus;
-pub use crate::wire::other::Other;
 pub use crate::wire::record::Record;
 pub use crate::wire::revision::{DecodedRevision, Revision};
 pub use crate::wire::revision_key::RevisionKey;
+pub use crate::wire::unread_entry::UnreadEntry;

@@ -6,10 +6,10 @@ ghost use Rattle.bolt_etcd.specs.Wire.Fields.{field, first, value, varint};
 
 pub(crate) mod name_tag;
 pub(crate) mod numbered_entry;
-pub(crate) mod other;
 pub(crate) mod record;
 pub(crate) mod revision;
 pub(crate) mod revision_key;
+pub(crate) mod unread_entry;
 
 /// The greatest number of bytes in a varint.
 const MAX_VARINT_LEN: u32 = 10;

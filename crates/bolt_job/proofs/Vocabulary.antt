@@ -14,10 +14,9 @@ pub use Rattle.clap.proofs.WalkLemmas.{first_value-rows, list_any-map, raw_value
 pub use Rattle.clap.specs.Words.{AddsArg, AddsSubcommand, App, HasKind, HasMatchesOf, IsAmong, Kinds, Row, Rule, all_of, app_of, fault_of, found_of}
 pub use Rattle.clap.specs.Words.{is_simple, is_simple_and_free, rows_of, rule_of, subcommand_of, subcommand_rows_of, with_rule, with_subcommand}
 pub use Rattle.clap.specs.declared.builder.Command.{Command}
-pub use Rattle.std.proofs.lemmas.Bool.{and_parts, false_from_ne_true, not-true, or_cases, or_parts}
-pub use Rattle.std.proofs.{lemmas.List.at_drop_more, lemmas.List.drop_all, lemmas.List.map-append, lemmas.List.take-append-drop, lemmas.List.take_all}
-pub use Rattle.std.proofs.lemmas.Slice.Eq.{bytes_eq-Decides}
+pub use Rattle.std.proofs.lemmas.Bool.{false_from_ne_true, or_cases, or_parts}
+pub use Rattle.std.proofs.{lemmas.List.at_drop_more, lemmas.List.drop_all, lemmas.List.map-append, lemmas.List.take_all}
 pub use Rattle.std.specs.{List.after_first, List.before_first, List.list_any, List.position_or_len, List.slice_split, Result.IsErrAnd}
-pub use Rattle.std.specs.{Result.result_ok, Borrow.Bor, Cmp.Lexicographic.pointwise}
+pub use Rattle.std.specs.Borrow.{Bor}
 pub use Rattle.std.specs.Str.{bytes_eq}
 pub use Rattle.std.specs.Prelude.{Box, IfNone, IfSome, MatchOption, None, Option, Some, false, if◌then◌else◌, option_and_then, option_map, true}

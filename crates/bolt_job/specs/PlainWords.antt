@@ -12,11 +12,11 @@ use Rattle.bolt_job.specs.{PathWords.◌>>=◌, PathWords.each_part, PathWords.h
 use Rattle.bolt_job.specs.{declared.choices.BucketsShown.BucketsShown}
 use Rattle.bolt_job.specs.{declared.choices.BucketsShown.TheVariants.Names, declared.choices.BucketsShown.TheVariants.Sizes}
 use Rattle.bolt_job.specs.{declared.choices.CopyKind.CopyKind, declared.choices.Extent.Extent}
-use Rattle.bolt_job.specs.{declared.choices.MetaChoice.MetaChoice, declared.choices.PageSize.PageSize, declared.etcd_jobs.EtcdCheckJob.EtcdCheckJob}
-use Rattle.bolt_job.specs.{declared.etcd_jobs.EtcdGetJob.EtcdGetJob}
-use Rattle.bolt_job.specs.{declared.etcd_jobs.EtcdKeysJob.EtcdKeysJob, declared.etcd_jobs.EtcdRepairJob.EtcdRepairJob}
-use Rattle.bolt_job.specs.{declared.etcd_jobs.EtcdRevisionsJob.EtcdRevisionsJob}
-use Rattle.bolt_job.specs.declared.etcd_jobs.EtcdStatusJob.{EtcdStatusJob}
+use Rattle.bolt_job.specs.{declared.choices.MetaChoice.MetaChoice, declared.choices.PageSize.PageSize}
+use Rattle.bolt_job.specs.{declared.etcd_commands.EtcdCheckJob.EtcdCheckJob, declared.etcd_commands.EtcdGetJob.EtcdGetJob}
+use Rattle.bolt_job.specs.{declared.etcd_commands.EtcdKeysJob.EtcdKeysJob, declared.etcd_commands.EtcdRepairJob.EtcdRepairJob}
+use Rattle.bolt_job.specs.{declared.etcd_commands.EtcdRevisionsJob.EtcdRevisionsJob}
+use Rattle.bolt_job.specs.declared.etcd_commands.EtcdStatusJob.{EtcdStatusJob}
 use Rattle.bolt_job.specs.{declared.page_commands.CheckJob.CheckJob, declared.page_commands.InfoJob.InfoJob, declared.page_commands.PageJob.PageJob}
 use Rattle.bolt_job.specs.{declared.page_commands.PagesJob.PagesJob, declared.page_commands.StatesJob.StatesJob}
 use Rattle.bolt_job.specs.{declared.bucket_commands.BucketsJob.BucketsJob, declared.bucket_commands.GetJob.GetJob}
@@ -78,7 +78,7 @@ pub data Asked : Type 0 where
   etcd_get : Text → AskedMeta → (name : Key) → (revision : Option ℕ) → Form → (no_newline : Bool) → Asked
   etcd_check : Text → AskedMeta → Asked
   etcd_status : Text → AskedMeta → (revision : Option ℕ) → FigureForm → Asked
-  etcd_repair : (file : Text) → AskedMeta → (target : Text) → (page_size : Option ℕ) → (snapshot search : Bool) → Asked
+  etcd_repair : (file : Text) → AskedMeta → (target : Text) → (page_size : Option ℕ) → CopyKind → (search : Bool) → Asked
 
 -- the path that the code owns
 abbrev pub owned_path : {Z : Type 0} → List (Vec ℕ Z) → Path
@@ -147,7 +147,7 @@ abbrev pub etcd_status_of : EtcdStatusJob → Asked
 etcd_status_of j = etcd_status (string_bytes j.file) (meta_in j.meta) j.at j.form
 
 abbrev pub etcd_repair_of : EtcdRepairJob → Asked
-etcd_repair_of j = etcd_repair (string_bytes j.file) (meta_in j.meta) (string_bytes j.target) (size_in j.page_size) j.snapshot j.search
+etcd_repair_of j = etcd_repair (string_bytes j.file) (meta_in j.meta) (string_bytes j.target) (size_in j.page_size) j.kind j.search
 
 -- the words that a line gives by each name
 abbrev pub Values : Type 0
@@ -217,6 +217,11 @@ copy_kind_by None None = kind.Plain
 
 abbrev kind_in : Values → CopyKind
 kind_in values = copy_kind_by (given values (codes "for-bbolt")) (given values (codes "etcd-snapshot"))
+
+-- the kind of a repaired copy, by the word of `--etcd-snapshot` if it is given; it is never plain
+abbrev pub repair_kind_by : (snapshot : Option Text) → CopyKind
+repair_kind_by (Some word) = kind.EtcdSnapshot
+repair_kind_by None = kind.ForBbolt
 
 -- how much is read of a damaged file, by the words of `--all` or `--recover` and of `--lost-and-found` if they are given
 abbrev pub extent_by : (losses lost_and_found : Option Text) → Extent
@@ -376,7 +381,7 @@ unfoldable pub asks_etcd_repair : Values → Result Asked Text
 asks_etcd_repair values =
     meta_by values >>= λ meta. page_size_by (given values (codes "page-size")) >>= λ size. text_by (codes "output") values >>= λ target.
     file_by values >>= λ file.
-    Ok (etcd_repair file meta target size (is_given (given values (codes "etcd-snapshot"))) (is_given (given values (codes "search"))))
+    Ok (etcd_repair file meta target size (repair_kind_by (given values (codes "etcd-snapshot"))) (is_given (given values (codes "search"))))
 
 -- ---- the commands
 

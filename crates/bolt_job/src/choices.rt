@@ -14,7 +14,7 @@ pub struct PageSize {
 
 impl PageSize {
     /// The page size of most files, since most systems have pages of this size.
-    pub(crate) const USUAL: PageSize = PageSize { bytes: 4096 };
+    pub const USUAL: PageSize = PageSize { bytes: 4096 };
 
     /// The page size of this many bytes, if it is accepted.
     pub fn new(bytes: u64) -> Option<PageSize>
@@ -55,8 +55,8 @@ impl MetaChoice {
     ///
     /// # Errors
     ///
-    /// The fault of byte 0 if no meta is valid, or that of the slot if it has no valid meta. There is
-    /// none if the meta is assumed.
+    /// The fault of byte 0 if no meta is valid, or that of the slot if it has no valid meta. An assumed meta
+    /// is always found.
     pub fn find(self, file: &[u8]) -> Result<Meta, MetaFault>
         ensures found { IfOk result (IsMetaOf file.now self) }
         ensures none { IfErr result (HasNoMetaOf file.now self) }
@@ -121,11 +121,12 @@ pub enum BucketsShown {
     Sizes,
 }
 
-/// Which files `check`, `list` and `compact` read, and how much of a damaged one.
+/// Which files `check`, `list` and `compact` read, and how much of a damaged one. `etcd-check` has no choice:
+/// it begins as `check` with `Losses`.
 #[derive(Clone, Copy)]
 pub enum Extent {
-    /// A sound file alone. Of a damaged one `check` prints the first finding of its trees; `list` and
-    /// `compact` refuse it.
+    /// A sound file alone. From a damaged one `check` prints the first finding of its trees or, if they are
+    /// sound, all findings of its accounts. `list` and `compact` refuse it.
     Sound,
     /// A damaged file too: what is kept of it. Each loss is reported.
     Losses,

@@ -12,7 +12,7 @@ use crate::bucket_commands::{
     read_get, read_keys, read_list, read_stats,
 };
 use crate::command_line::Syntax;
-use crate::etcd_jobs::{
+use crate::etcd_commands::{
     ETCD_CHECK, ETCD_GET, ETCD_KEYS, ETCD_REPAIR, ETCD_REVISIONS, ETCD_STATUS, EtcdCheckJob,
     EtcdGetJob, EtcdKeysJob, EtcdRepairJob, EtcdRevisionsJob, EtcdStatusJob, read_etcd_check,
     read_etcd_get, read_etcd_keys, read_etcd_repair, read_etcd_revisions, read_etcd_status,

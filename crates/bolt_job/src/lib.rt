@@ -4,7 +4,7 @@
 mod bucket_commands;
 mod choices;
 mod command_line;
-mod etcd_jobs;
+mod etcd_commands;
 mod job;
 mod job_words;
 mod line;
@@ -15,7 +15,7 @@ mod writing_commands;
 
 pub use bucket_commands::{BucketsJob, GetJob, KeysJob, ListJob, StatsJob};
 pub use choices::{AssumedMeta, BucketsShown, CopyKind, Extent, MetaChoice, PageSize};
-pub use etcd_jobs::{
+pub use etcd_commands::{
     EtcdCheckJob, EtcdGetJob, EtcdKeysJob, EtcdRepairJob, EtcdRevisionsJob, EtcdStatusJob,
 };
 pub use job::Job;

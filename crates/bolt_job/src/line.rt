@@ -5,7 +5,7 @@ ghost use Rattle.bolt_job.specs.FormWords.{figure_form_by, form_by, list_form_by
 ghost use Rattle.bolt_job.specs.PathWords.{hex_path_by, parts_by};
 ghost use Rattle.bolt_job.specs.PlainWords.{assumed_of, copy_kind_by, extent_by, first_word_of, id_by, is_given, load_size_by, meta_by, meta_in};
 ghost use Rattle.bolt_job.specs.PlainWords.{name_by, number_or_why, page_size_by, page_size_asked, path_by, owned_path, prefix_by, revision_asked};
-ghost use Rattle.bolt_job.specs.PlainWords.{revision_of, sequence_by, shown_by, size_in, slot_by, slot_of, text_by};
+ghost use Rattle.bolt_job.specs.PlainWords.{repair_kind_by, revision_of, sequence_by, shown_by, size_in, slot_by, slot_of, text_by};
 ghost use Rattle.bolt_job.specs.Private.CommandLines.{IsAssumedBy, values_of};
 
 use crate::choices::{AssumedMeta, BucketsShown, CopyKind, Extent, MetaChoice, PageSize};
@@ -237,6 +237,16 @@ impl Line<'_, '_> {
             (_, Some(_)) => CopyKind::EtcdSnapshot,
             (Some(_), None) => CopyKind::ForBbolt,
             (None, None) => CopyKind::Plain,
+        }
+    }
+
+    /// The kind of a repaired copy. It is for etcd, so never plain.
+    pub(crate) fn repair_kind(&self) -> CopyKind
+        ensures { result ≡ repair_kind_by (first_word_of (values_of self.now (codes "etcd-snapshot"))) }
+    {
+        match self.choice("etcd-snapshot") {
+            Some(_) => CopyKind::EtcdSnapshot,
+            None => CopyKind::ForBbolt,
         }
     }
 

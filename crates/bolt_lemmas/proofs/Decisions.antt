@@ -11,17 +11,17 @@ use Rattle.std.specs.declared.cmp.Ordering.TheVariants.{Equal, Greater, Less}
 use Rattle.bolt_lemmas.proofs.Members.{contains_cases, contains_head, contains_none, contains_tail}
 use mathlib.Core.Logic.Dec as decide
 
-abbrev pub told : {P : Type 0} → Dec P → Bool
-told (yes p) = true
-told (no never) = false
+abbrev pub says : {P : Type 0} → Dec P → Bool
+says (yes p) = true
+says (no never) = false
 
-pub told_true : {P : Type 0} (d : Dec P) → told d ≡ true → P
-told_true (yes p) e = p
-told_true (no never) e = cc
+pub says_true : {P : Type 0} (d : Dec P) → says d ≡ true → P
+says_true (yes p) e = p
+says_true (no never) e = cc
 
-pub true_told : {P : Type 0} (d : Dec P) → P → told d ≡ true
-true_told (yes p) q = refl
-true_told (no never) q = absurd (never q)
+pub true_says : {P : Type 0} (d : Dec P) → P → says d ≡ true
+true_says (yes p) q = refl
+true_says (no never) q = absurd (never q)
 
 pub dec_either : {P Q : Type 0} → Dec P → Dec Q → Dec (P ⊎ Q)
 dec_either (yes p) q = yes (inl p)

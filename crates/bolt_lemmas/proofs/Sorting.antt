@@ -14,7 +14,7 @@ use Rattle.std.specs.List.Sorted.{IsPermutation, IsSorted, IsSortedBy, IsStrictl
 use Rattle.std.specs.Ordering.{eq_by_cmp, is_lt, ordering_reverse}
 use Rattle.std.specs.declared.cmp.Ordering.{Ordering}
 use Rattle.std.specs.declared.cmp.Ordering.TheVariants.{Equal, Less}
-use Rattle.bolt_lemmas.proofs.Decisions.{told, told_true, true_told}
+use Rattle.bolt_lemmas.proofs.Decisions.{says, says_true, true_says}
 use Rattle.bolt_lemmas.proofs.Filters.{kept, kept_from}
 use Rattle.bolt_lemmas.proofs.Members.{contains_cases, contains_head, contains_none, contains_tail}
 use Rattle.bolt_lemmas.proofs.Rising.{rises_once}
@@ -155,10 +155,10 @@ module _ {A : Type 0} {cmp : A → A → Ordering} (total : IsTotalOrder cmp) wh
     pub sorted_choice : (xs : List A) → ((x y : A) → Contains xs x → P x → Contains xs y → P y → cmp x y ≡ Equal → x ≡ y)
         → (ys : List A) × Rises cmp ys × ((y : A) → Contains ys y ↔ (Contains xs y × P y))
     sorted_choice xs exact =
-        let holds = λ (x : A). told (dec x) in
+        let holds = λ (x : A). says (dec x) in
         let those : (y : A) → Contains (filter holds xs) y → Contains xs y × P y = λ y has. let (there, e) = kept_from holds xs y has in
-        (there, told_true (dec y) e) in
+        (there, says_true (dec y) e) in
         let (ys, rises, are) =
         sorted_elements (filter holds xs)
         (λ x y has also. let (there, is) = those x has in let (here, holds_of) = those y also in exact x y there is here holds_of) in
-        (ys, rises, λ y. (λ has. those y ((are y).0 has), λ (has, is). (are y).1 (kept holds xs y has (true_told (dec y) is))))
+        (ys, rises, λ y. (λ has. those y ((are y).0 has), λ (has, is). (are y).1 (kept holds xs y has (true_says (dec y) is))))

@@ -32,11 +32,11 @@ bytes_push : (listing : List Member) (member : Member)
 bytes_push listing member =
     flat_map-append member_bytes listing (member ∷ []) ∙ ap (λ more. flat_map member_bytes listing ++ more) (append-nil (member_bytes member))
 
-tells : (line : Text) → IsShaped line → IsSome (line_member line)
-tells line shaped = let found = shaped_member line shaped in subst IsSome (sym found.1) refl
+says : (line : Text) → IsShaped line → IsSome (line_member line)
+says line shaped = let found = shaped_member line shaped in subst IsSome (sym found.1) refl
 
-pub all_tell : (lines : List Text) → All IsShaped lines → All (λ line. IsSome (line_member line)) lines
-all_tell lines shaped = λ k d below. tells _ (shaped k d below)
+pub all_say : (lines : List Text) → All IsShaped lines → All (λ line. IsSome (line_member line)) lines
+all_say lines shaped = λ k d below. says _ (shaped k d below)
 
 begins_with : (front after bytes : List ℕ) → bytes ≡ front ++ after → take (length front) bytes ≡ front
 begins_with front after bytes is = ap (take (length front)) is ∙ take-append_seam front after
@@ -104,7 +104,7 @@ module _ (text rest : Text) (bytes new : List ℕ) (so_far : HasDecoded text res
       decoded_lines = ap lines_of is ∙ head_lines
 
       pub front_decoded : {found : Option (List ℕ)} → AddsDecoded found bytes new → AreDecoded (lines_of decoded) new
-      front_decoded adds = grind (arith, common_steps, decoded_lines, all_tell, begins_with, flat_map, member_bytes)
+      front_decoded adds = grind (arith, common_steps, decoded_lines, all_say, begins_with, flat_map, member_bytes)
 
       pub front_shaped : All IsShaped (lines_of decoded)
       front_shaped = subst (All IsShaped) (sym decoded_lines) so_far.shaped
@@ -118,7 +118,7 @@ module _ (text rest : Text) (bytes new : List ℕ) (so_far : HasDecoded text res
 
     pub all_decoded : AreDecoded (lines_of text) bytes
     all_decoded = subst (λ (lines : List Text). AreDecoded lines bytes) (sym all_lines) (record {
-      tell = all_tell so_far.front so_far.shaped;
+      say = all_say so_far.front so_far.shaped;
       begin =
           begins_with (flat_map member_bytes (members_of_lines so_far.front)) [] bytes
           (so_far.bytes_are ∙ sym (append-nil (flat_map member_bytes (members_of_lines so_far.front))));

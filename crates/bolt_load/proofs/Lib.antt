@@ -6,7 +6,6 @@ mod LastPaths
 mod ListingTexts
 mod MemberLemmas
 mod NextLines
-mod OpenTests
 mod PathLemmas
 mod PlacedLines
 mod PlainLines

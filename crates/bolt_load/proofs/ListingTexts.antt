@@ -98,25 +98,25 @@ module _ (before : List Member) (front : Path) (key : Key) (item : Item) (rest :
   abbrev own : Member
   own = (front ++ key ∷ [], item)
 
-  told : line_member (member_words own) ≡ Some own
-  told = line_back own (some_parts front key) fits good
+  said : line_member (member_words own) ≡ Some own
+  said = line_back own (some_parts front key) fits good
 
   first_right : Rises member_cmp (before ++ own ∷ rest) → has_bucket front before ≡ true → line_fault before (member_words own) ≡ None
-  first_right rises has = grind (arith, common_steps, fault_is_of_place, member_words, line_shaped, told, placed, above_last, rises_after)
+  first_right rises has = grind (arith, common_steps, fault_is_of_place, member_words, line_shaped, said, placed, above_last, rises_after)
 
-  told_alone : members_of_lines (member_words own ∷ []) ≡ own ∷ []
-  told_alone = member_alone (member_words own) own told
+  said_alone : members_of_lines (member_words own ∷ []) ≡ own ∷ []
+  said_alone = member_alone (member_words own) own said
 
-  told_first : (listing : List Member) → members_of_lines (map member_words listing) ≡ listing
+  said_first : (listing : List Member) → members_of_lines (map member_words listing) ≡ listing
       → members_of_lines (map member_words (own ∷ listing)) ≡ own ∷ listing
-  told_first listing same = members_first (member_words own) (map member_words listing) own told ∙ ap (λ ms. own ∷ ms) same
+  said_first listing same = members_first (member_words own) (map member_words listing) own said ∙ ap (λ ms. own ∷ ms) same
 
 members_back : (front : Path) (tree : Tree) → IsPlain front tree
     → members_of_lines (map member_words (listing_below front tree)) ≡ listing_below front tree
 members_back front end plain = refl
 members_back front (with_value key value after) plain =
     let fits : FitsMember (front ++ key ∷ [], Value value) = (push_key front key plain.keys (plain.lengths.0, tt), plain.lengths.1) in
-    told_first [] front key (Value value) [] fits (plain.good (front ++ key ∷ [], Value value) (inl refl)) (listing_below front after)
+    said_first [] front key (Value value) [] fits (plain.good (front ++ key ∷ [], Value value) (inl refl)) (listing_below front after)
     (members_back front after (record { keys = plain.keys; lengths = plain.lengths.2; good = later_good _ (listing_below front after) plain.good }))
 members_back front (with_bucket key sequence inside after) plain =
     let keys = push_key front key plain.keys (plain.lengths.0, tt) in
@@ -129,7 +129,7 @@ members_back front (with_bucket key sequence inside after) plain =
     (record { keys = keys; lengths = plain.lengths.2; good = λ member has. plain.good member (inr (has_left deep behind member has)) }))
     (members_back front after
     (record { keys = plain.keys; lengths = plain.lengths.3; good = λ member has. plain.good member (inr (has_right deep behind member has)) })) in
-    told_first [] front key (Bucket sequence) [] (keys, plain.lengths.1) (plain.good (front ++ key ∷ [], Bucket sequence) (inl refl)) (deep ++ behind) same
+    said_first [] front key (Bucket sequence) [] (keys, plain.lengths.1) (plain.good (front ++ key ∷ [], Bucket sequence) (inl refl)) (deep ++ behind) same
 
 right_below : (before : List Member) (front : Path) (tree : Tree) → IsPlain front tree → has_bucket front before ≡ true
     → Rises member_cmp (before ++ listing_below front tree)
@@ -140,7 +140,7 @@ right_below before front (with_value key value after) plain has rises =
     let behind : List Member = listing_below front after in
     let fits : FitsMember (front ++ key ∷ [], Value value) = (push_key front key plain.keys (plain.lengths.0, tt), plain.lengths.1) in
     let good = plain.good own (inl refl) in
-    let alone = told_alone before front key (Value value) behind fits good in (
+    let alone = said_alone before front key (Value value) behind fits good in (
       first_right before front key (Value value) behind fits good rises has,
       subst (λ (ms : List Member). RightAfter (before ++ ms) (map member_words behind)) (sym alone)
           (right_below (before ++ own ∷ []) front after (record { keys = plain.keys; lengths = plain.lengths.2; good = later_good own behind plain.good })
@@ -153,7 +153,7 @@ right_below before front (with_bucket key sequence inside after) plain has rises
     let keys = push_key front key plain.keys (plain.lengths.0, tt) in
     let fits : FitsMember (front ++ key ∷ [], Bucket sequence) = (keys, plain.lengths.1) in
     let good = plain.good own (inl refl) in
-    let alone = told_alone before front key (Bucket sequence) (deep ++ behind) fits good in
+    let alone = said_alone before front key (Bucket sequence) (deep ++ behind) fits good in
     let plain_inside : IsPlain (front ++ key ∷ []) inside =
     record { keys = keys; lengths = plain.lengths.2; good = λ member has. plain.good member (inr (has_left deep behind member has)) } in
     let plain_after : IsPlain front after =

@@ -20,7 +20,7 @@ long_value digits item is = at (hex_bytes_in digits) refl is
         let same : Value value ≡ item = cc in
         ap (nat_lt 0x7FFFFFFE) (halved digits value found) ∙ ap is_long_item same
 
-module _ (line : Text) (path : Option Path) (item : Option Item) (told : line_member line ≡ member_of path item)
+module _ (line : Text) (path : Option Path) (item : Option Item) (said : line_member line ≡ member_of path item)
     (some : is_some (option_map member_bytes (member_of path item)) ≡ true) where
   pub value_is_long : (long_key long : Bool) → ((p : Path) → path ≡ Some p → long_key ≡ list_any is_long_key p)
       → ((i : Item) → item ≡ Some i → long ≡ is_long_item i) → long_key ≡ false → long ≡ true → Some ValueTooLong ≡ shape_fault line

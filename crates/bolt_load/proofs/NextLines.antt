@@ -8,8 +8,8 @@ use Rattle.bolt_load.proofs.MemberLemmas.{member_of}
 use Rattle.std.specs.Prelude.{suc, IsSomeAnd}
 use Rattle.bolt_load.specs.Private.Decoding.{listing_bytes}
 
-told_by : (found : Option Member) → IsSome found → (member : Member) × (found ≡ Some member)
-told_by found some = grind arith
+said_by : (found : Option Member) → IsSome found → (member : Member) × (found ≡ Some member)
+said_by found some = grind arith
 
 pub first_of : (P : Text → Type 0) (line : Text) (lines : List Text) → All P (line ∷ lines) → P line
 first_of P line lines all = all 0 line (omega arith)
@@ -26,46 +26,46 @@ pub parts_of : (path : Option Path) (item : Option Item) (member : Member) → m
 parts_of path item member is = grind arith
 
 module _ (text line after : Text) (bytes : List ℕ) (first : IsFirstLine text line after) (decoded : AreDecoded (lines_of text) bytes) where
-  all_tell : All (λ line. IsSome (line_member line)) (line ∷ lines_of after)
-  all_tell = subst (λ (lines : List Text). All (λ line. IsSome (line_member line)) lines) first.lines decoded.tell
+  all_say : All (λ line. IsSome (line_member line)) (line ∷ lines_of after)
+  all_say = subst (λ (lines : List Text). All (λ line. IsSome (line_member line)) lines) first.lines decoded.say
 
-  told : (member : Member) × (line_member line ≡ Some member)
-  told = told_by (line_member line) (first_of (λ line. IsSome (line_member line)) line (lines_of after) all_tell)
+  said : (member : Member) × (line_member line ≡ Some member)
+  said = said_by (line_member line) (first_of (λ line. IsSome (line_member line)) line (lines_of after) all_say)
 
   pub no_words : line_member line ≡ None → ⊥
-  no_words none = let f : None ≡ Some told.0 = sym none ∙ told.1 in absurd (cc)
+  no_words none = let f : None ≡ Some said.0 = sym none ∙ said.1 in absurd (cc)
 
-  members_are : text_members text ≡ told.0 ∷ text_members after
-  members_are = ap members_of_lines first.lines ∙ members_first line (lines_of after) told.0 told.1
+  members_are : text_members text ≡ said.0 ∷ text_members after
+  members_are = ap members_of_lines first.lines ∙ members_first line (lines_of after) said.0 said.1
 
   later : List ℕ
   later = listing_bytes (text_members after) ++ drop (length (listing_bytes (text_members text))) bytes
 
-  bytes_are : bytes ≡ path_bytes told.0.0 ++ (item_bytes told.0.1 ++ later)
+  bytes_are : bytes ≡ path_bytes said.0.0 ++ (item_bytes said.0.1 ++ later)
   unfolding later
   bytes_are = search (rules, listing_bytes, text_members, take-append-drop, members_are, append_assoc, member_bytes, path_bytes, item_bytes)
 
   module _ (path : Option Path) (item : Option Item) (words : line_member line ≡ member_of path item) where
-    both : (path ≡ Some told.0.0) × (item ≡ Some told.0.1)
-    both = parts_of path item told.0 (sym words ∙ told.1)
+    both : (path ≡ Some said.0.0) × (item ≡ Some said.0.1)
+    both = parts_of path item said.0 (sym words ∙ said.1)
 
-    pub path_begins : IsSomeAnd path (λ told. BeginsWith (path_bytes told) bytes)
+    pub path_begins : IsSomeAnd path (λ said. BeginsWith (path_bytes said) bytes)
     path_begins =
-        subst (λ (path : Option Path). IsSomeAnd path (λ told. BeginsWith (path_bytes told) bytes)) (sym both.0)
-        (record { after = item_bytes told.0.1 ++ later; whole = bytes_are })
+        subst (λ (path : Option Path). IsSomeAnd path (λ said. BeginsWith (path_bytes said) bytes)) (sym both.0)
+        (record { after = item_bytes said.0.1 ++ later; whole = bytes_are })
 
-    module _ (newer : Path) (bytes_left : List ℕ) (pushed : (told : Path) → path ≡ Some told → (newer ≡ told) × (bytes ≡ path_bytes told ++ bytes_left)) where
-      left_are : bytes_left ≡ item_bytes told.0.1 ++ later
-      left_are = append_cancel_left (path_bytes told.0.0) bytes_left (item_bytes told.0.1 ++ later) (sym (pushed told.0.0 both.0).1 ∙ bytes_are)
+    module _ (newer : Path) (bytes_left : List ℕ) (pushed : (said : Path) → path ≡ Some said → (newer ≡ said) × (bytes ≡ path_bytes said ++ bytes_left)) where
+      left_are : bytes_left ≡ item_bytes said.0.1 ++ later
+      left_are = append_cancel_left (path_bytes said.0.0) bytes_left (item_bytes said.0.1 ++ later) (sym (pushed said.0.0 both.0).1 ∙ bytes_are)
 
-      pub item_begins : IsSomeAnd item (λ told. BeginsWith (item_bytes told) bytes_left)
+      pub item_begins : IsSomeAnd item (λ said. BeginsWith (item_bytes said) bytes_left)
       item_begins =
-          subst (λ (item : Option Item). IsSomeAnd item (λ told. BeginsWith (item_bytes told) bytes_left)) (sym both.1)
+          subst (λ (item : Option Item). IsSomeAnd item (λ said. BeginsWith (item_bytes said) bytes_left)) (sym both.1)
           (record { after = later; whole = left_are })
 
       module _ (given : Item) (rest : List ℕ) (item_is : Some given ≡ item) (rest_is : bytes_left ≡ item_bytes given ++ rest) where
-        item_same : told.0.1 ≡ given
-        item_same = let f : Some given ≡ Some told.0.1 = item_is ∙ both.1 in cc
+        item_same : said.0.1 ≡ given
+        item_same = let f : Some given ≡ Some said.0.1 = item_is ∙ both.1 in cc
 
         rest_same : rest ≡ later
         rest_same = append_cancel_left (item_bytes given) rest later (sym rest_is ∙ left_are ∙ ap (λ item. item_bytes item ++ later) item_same)
@@ -73,7 +73,7 @@ module _ (text line after : Text) (bytes : List ℕ) (first : IsFirstLine text l
         pub rest_decoded : AreDecoded (lines_of after) rest
         unfolding later
         rest_decoded = record {
-          tell = others_of (λ line. IsSome (line_member line)) line (lines_of after) all_tell;
+          say = others_of (λ line. IsSome (line_member line)) line (lines_of after) all_say;
           begin =
               ap (take (length (listing_bytes (text_members after)))) rest_same
               ∙ take-append_seam (listing_bytes (text_members after)) (drop (length (listing_bytes (text_members text))) bytes);
@@ -85,6 +85,6 @@ no_members text none = ap lines_of none
 
 -- the parts were pushed onto an empty path
 pub pushed_onto_none : (path : Option Path) (cleared : Path) (newer : Path) (bytes bytes_left : List ℕ) → cleared ≡ []
-    → ((told : Path) → path ≡ Some told → (newer ≡ cleared ++ told) × (bytes ≡ path_bytes told ++ bytes_left))
-    → (told : Path) → path ≡ Some told → (newer ≡ told) × (bytes ≡ path_bytes told ++ bytes_left)
-pushed_onto_none path cleared newer bytes bytes_left none pushed told is = let both = pushed told is in (both.0 ∙ ap (λ cleared. cleared ++ told) none, both.1)
+    → ((said : Path) → path ≡ Some said → (newer ≡ cleared ++ said) × (bytes ≡ path_bytes said ++ bytes_left))
+    → (said : Path) → path ≡ Some said → (newer ≡ said) × (bytes ≡ path_bytes said ++ bytes_left)
+pushed_onto_none path cleared newer bytes bytes_left none pushed said is = let both = pushed said is in (both.0 ∙ ap (λ cleared. cleared ++ said) none, both.1)

@@ -40,13 +40,6 @@ one_more : (front : Path) (key : Key) (found : Option Path)
     → put_before front (option_map (λ parts. key ∷ parts) found) ≡ put_before (front ++ key ∷ []) found
 one_more front key found = grind (arith, common_steps)
 
-pub all_parts : (word : Text) → IsFront word word []
-all_parts word = same (hex_path_in word)
-  where
-    same : (found : Option Path) → found ≡ put_before [] found
-    same None = refl
-    same (Some path) = refl
-
 module _ (word rest : Text) (front : Path) (is : IsFront word rest front) where
   pub next_part : (part after : Text) (key : Key) → IsCutAt 47 rest part after → part_in part ≡ Some key → IsFront word after (front ++ key ∷ [])
   next_part part after key cut found =

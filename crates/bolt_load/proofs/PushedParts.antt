@@ -19,17 +19,17 @@ module _ {A : Type 0} (front after whole : List A) (n : ℕ) (is : whole ≡ fro
 
 -- ---- a value
 
-module _ (digits bytes : List ℕ) (told : IsSomeAnd (option_map Value (hex_bytes_in digits)) (λ item. BeginsWith (item_bytes item) bytes)) where
-  value_told : (value : List ℕ) × (hex_bytes_in digits ≡ Some value) × BeginsWith value bytes
-  value_told = at (hex_bytes_in digits) refl told
+module _ (digits bytes : List ℕ) (said : IsSomeAnd (option_map Value (hex_bytes_in digits)) (λ item. BeginsWith (item_bytes item) bytes)) where
+  value_said : (value : List ℕ) × (hex_bytes_in digits ≡ Some value) × BeginsWith value bytes
+  value_said = at (hex_bytes_in digits) refl said
     where
       at : (found : Option (List ℕ)) → hex_bytes_in digits ≡ found → IsSomeAnd (option_map Value found) (λ item. BeginsWith (item_bytes item) bytes)
           → (value : List ℕ) × (hex_bytes_in digits ≡ Some value) × BeginsWith value bytes
-      at None is told = absurd told
-      at (Some value) is told = (value, is, told)
+      at None is said = absurd said
+      at (Some value) is said = (value, is, said)
 
   pub value_fits : length digits / 2 ≤ length bytes
-  value_fits = front_fits value_told.0 value_told.2.after bytes (length digits / 2) value_told.2.whole (halved digits value_told.0 value_told.1)
+  value_fits = front_fits value_said.0 value_said.2.after bytes (length digits / 2) value_said.2.whole (halved digits value_said.0 value_said.1)
 
   pub value_is : (value : List ℕ) → value ≡ take (length digits / 2) bytes → Some (Value value) ≡ option_map Value (hex_bytes_in digits)
   value_is value is = grind (arith, common_steps, front_is, halved)
@@ -41,34 +41,34 @@ pub record PushesParts (word rest : Text) (bytes bytes_left : List ℕ) (old new
   pub front : Path
   pub left : Path
   pub after : List ℕ
-  pub told : hex_path_in word ≡ Some (front ++ left)
-  pub left_told : hex_path_in rest ≡ Some left
+  pub said : hex_path_in word ≡ Some (front ++ left)
+  pub left_said : hex_path_in rest ≡ Some left
   pub pushed : new ≡ old ++ front
   pub whole : bytes ≡ path_bytes front ++ bytes_left
   pub next : bytes_left ≡ path_bytes left ++ after
 
-pub none_pushed : (word : Text) (bytes : List ℕ) (old : Path) → IsSomeAnd (hex_path_in word) (λ told. BeginsWith (path_bytes told) bytes)
+pub none_pushed : (word : Text) (bytes : List ℕ) (old : Path) → IsSomeAnd (hex_path_in word) (λ said. BeginsWith (path_bytes said) bytes)
     → PushesParts word word bytes bytes old old
-none_pushed word bytes old told = at (hex_path_in word) refl told
+none_pushed word bytes old said = at (hex_path_in word) refl said
   where
-    at : (found : Option Path) → hex_path_in word ≡ found → IsSomeAnd found (λ told. BeginsWith (path_bytes told) bytes)
+    at : (found : Option Path) → hex_path_in word ≡ found → IsSomeAnd found (λ said. BeginsWith (path_bytes said) bytes)
         → PushesParts word word bytes bytes old old
-    at None is told = absurd told
-    at (Some path) is told = record {
+    at None is said = absurd said
+    at (Some path) is said = record {
       front = [];
       left = path;
-      after = told.after;
-      told = is;
-      left_told = is;
+      after = said.after;
+      said = is;
+      left_said = is;
       pushed = sym (append-nil old);
       whole = refl;
-      next = told.whole;
+      next = said.whole;
     }
 
 module _ (word rest : Text) (bytes bytes_left : List ℕ) (old new : Path) (so_far : PushesParts word rest bytes bytes_left old new) where
-  module _ (part : Text) (key : Key) (path : Path) (part_told : part_in part ≡ Some key) (left_is : so_far.left ≡ key ∷ path) where
+  module _ (part : Text) (key : Key) (path : Path) (part_said : part_in part ≡ Some key) (left_is : so_far.left ≡ key ∷ path) where
     many : length part / 2 ≡ length key
-    many = halved part key (part_is part key part_told)
+    many = halved part key (part_is part key part_said)
 
     next_is : bytes_left ≡ key ++ (path_bytes path ++ so_far.after)
     next_is = so_far.next ∙ ap (λ left. path_bytes left ++ so_far.after) left_is ∙ append_assoc key (path_bytes path) so_far.after
@@ -78,8 +78,8 @@ module _ (word rest : Text) (bytes bytes_left : List ℕ) (old new : Path) (so_f
 
     module _ (slice rest_bytes : List ℕ) (newer : Path) (slice_is : slice ≡ take (length part / 2) bytes_left)
         (rest_is : rest_bytes ≡ drop (length part / 2) bytes_left) (more : newer ≡ new ++ slice ∷ []) where
-      now_told : hex_path_in word ≡ Some ((so_far.front ++ key ∷ []) ++ path)
-      now_told = so_far.told ∙ ap (λ left. Some (so_far.front ++ left)) left_is ∙ ap Some (sym (append_assoc so_far.front (key ∷ []) path))
+      now_said : hex_path_in word ≡ Some ((so_far.front ++ key ∷ []) ++ path)
+      now_said = so_far.said ∙ ap (λ left. Some (so_far.front ++ left)) left_is ∙ ap Some (sym (append_assoc so_far.front (key ∷ []) path))
 
       now_pushed : newer ≡ old ++ (so_far.front ++ key ∷ [])
       now_pushed = grind (arith, common_steps, front_is, path_bytes, next_is, many)
@@ -92,7 +92,7 @@ module _ (word rest : Text) (bytes bytes_left : List ℕ) (old new : Path) (so_f
 
   module _ (part after : Text) (cut : IsCutAt 47 rest part after) where
     found : (key : Key) × (path : Path) × (part_in part ≡ Some key) × (hex_path_in after ≡ Some path) × (so_far.left ≡ key ∷ path)
-    found = with_some (part_in part) (hex_path_in after) so_far.left (sym (first_part rest part after cut) ∙ so_far.left_told)
+    found = with_some (part_in part) (hex_path_in after) so_far.left (sym (first_part rest part after cut) ∙ so_far.left_said)
 
     pub part_fits : length part / 2 ≤ length bytes_left
     part_fits = fits part found.0 found.1 found.2 found.4
@@ -104,8 +104,8 @@ module _ (word rest : Text) (bytes bytes_left : List ℕ) (old new : Path) (so_f
       front = so_far.front ++ found.0 ∷ [];
       left = found.1;
       after = so_far.after;
-      told = now_told part found.0 found.1 found.2 found.4 slice rest_bytes newer slice_is rest_is more;
-      left_told = found.3;
+      said = now_said part found.0 found.1 found.2 found.4 slice rest_bytes newer slice_is rest_is more;
+      left_said = found.3;
       pushed = now_pushed part found.0 found.1 found.2 found.4 slice rest_bytes newer slice_is rest_is more;
       whole = now_whole part found.0 found.1 found.2 found.4 slice rest_bytes newer slice_is rest_is more;
       next = now_next part found.0 found.1 found.2 found.4 slice rest_bytes newer slice_is rest_is more;
@@ -113,7 +113,7 @@ module _ (word rest : Text) (bytes bytes_left : List ℕ) (old new : Path) (so_f
 
   module _ (without : IsWithout 47 rest) where
     last : (key : Key) × (path : Path) × (part_in rest ≡ Some key) × (Some [] ≡ Some path) × (so_far.left ≡ key ∷ path)
-    last = with_some (part_in rest) (Some []) so_far.left (sym (last_part rest without) ∙ so_far.left_told)
+    last = with_some (part_in rest) (Some []) so_far.left (sym (last_part rest without) ∙ so_far.left_said)
 
     last_is : so_far.left ≡ last.0 ∷ []
     last_is = let f : Some [] ≡ Some last.1 = last.3 in let none : [] ≡ last.1 = cc in last.4 ∙ ap (λ path. last.0 ∷ path) (sym none)
@@ -123,11 +123,11 @@ module _ (word rest : Text) (bytes bytes_left : List ℕ) (old new : Path) (so_f
 
     pub all_pushed : (slice rest_bytes : List ℕ) (newer : Path) → slice ≡ take (length rest / 2) bytes_left
         → rest_bytes ≡ drop (length rest / 2) bytes_left
-        → newer ≡ new ++ slice ∷ [] → (told : Path) → hex_path_in word ≡ Some told → (newer ≡ old ++ told) × (bytes ≡ path_bytes told ++ rest_bytes)
-    all_pushed slice rest_bytes newer slice_is rest_is more told is =
-        let all = now_told rest last.0 [] last.2 last_is slice rest_bytes newer slice_is rest_is more ∙ ap Some (append-nil (so_far.front ++ last.0 ∷ [])) in
-        let f : Some (so_far.front ++ last.0 ∷ []) ≡ Some told = sym all ∙ is in
-        let same : so_far.front ++ last.0 ∷ [] ≡ told = cc in (
-          now_pushed rest last.0 [] last.2 last_is slice rest_bytes newer slice_is rest_is more ∙ ap (λ told. old ++ told) same,
-          now_whole rest last.0 [] last.2 last_is slice rest_bytes newer slice_is rest_is more ∙ ap (λ told. path_bytes told ++ rest_bytes) same,
+        → newer ≡ new ++ slice ∷ [] → (said : Path) → hex_path_in word ≡ Some said → (newer ≡ old ++ said) × (bytes ≡ path_bytes said ++ rest_bytes)
+    all_pushed slice rest_bytes newer slice_is rest_is more said is =
+        let all = now_said rest last.0 [] last.2 last_is slice rest_bytes newer slice_is rest_is more ∙ ap Some (append-nil (so_far.front ++ last.0 ∷ [])) in
+        let f : Some (so_far.front ++ last.0 ∷ []) ≡ Some said = sym all ∙ is in
+        let same : so_far.front ++ last.0 ∷ [] ≡ said = cc in (
+          now_pushed rest last.0 [] last.2 last_is slice rest_bytes newer slice_is rest_is more ∙ ap (λ said. old ++ said) same,
+          now_whole rest last.0 [] last.2 last_is slice rest_bytes newer slice_is rest_is more ∙ ap (λ said. path_bytes said ++ rest_bytes) same,
         )

@@ -60,10 +60,10 @@ lines_fit : (lines : List Text) (before : List Member) → RightAfter before lin
 lines_fit [] before right member has = absurd has
 lines_fit (line ∷ lines) before right member has =
     let shaped = (or_parts_none (shape_fault line) (option_and_then (place_fault before) (line_member line)) right.0).0 in
-    let told = shaped_member line shaped in
-    first_or_later told.0 (members_of_lines lines) member (line_fits line told.0 shaped told.1)
+    let said = shaped_member line shaped in
+    first_or_later said.0 (members_of_lines lines) member (line_fits line said.0 shaped said.1)
     (lines_fit lines (before ++ members_of_lines (line ∷ [])) right.1 member)
-    (subst (λ (ms : List Member). Has ms member) (members_first line lines told.0 told.1) has)
+    (subst (λ (ms : List Member). Has ms member) (members_first line lines said.0 said.1) has)
 
 -- ---- the listing
 

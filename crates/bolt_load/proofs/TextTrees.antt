@@ -85,20 +85,20 @@ grows : (lines : List Text) (before : List Member) (tree : Tree) (last : Path) (
 grows [] before tree last bucket so_far right = (tree, so_far.lists ∙ sym (append-nil before), subst (Rises member_cmp) (sym (append-nil before)) so_far.rises)
 grows (line ∷ lines) before tree last bucket so_far right =
     let parts = or_parts_none (shape_fault line) (option_and_then (place_fault before) (line_member line)) right.0 in
-    let told = shaped_member line parts.0 in
-    let path = told.0.0 in
-    let item = told.0.1 in
-    let place : place_fault before told.0 ≡ None = sym (ap (option_and_then (place_fault before)) told.1) ∙ parts.1 in
-    let some = line_path_some line path item told.1 in
+    let said = shaped_member line parts.0 in
+    let path = said.0.0 in
+    let item = said.0.1 in
+    let place : place_fault before said.0 ≡ None = sym (ap (option_and_then (place_fault before)) said.1) ∙ parts.1 in
+    let some = line_path_some line path item said.1 in
     let both =
     fault_parts (is_lt (path_cmp last path)) (is_open last bucket (path_above path))
     (sym (place_same before last bucket so_far.last_is path some item) ∙ place) in
     let less = less_of (path_cmp last path) both.0 in
     let next = next_grown before tree last bucket so_far path item some less both.1 in
-    let rest = grows lines (before ++ told.0 ∷ []) (next_tree before tree last bucket so_far path item some less both.1) path (is_bucket item) next
-    (subst (λ (more : List Member). RightAfter (before ++ more) lines) (member_alone line told.0 told.1) right.1) in
-    let same : (before ++ told.0 ∷ []) ++ members_of_lines lines ≡ before ++ members_of_lines (line ∷ lines) =
-    append_assoc before (told.0 ∷ []) (members_of_lines lines) ∙ ap (λ more. before ++ more) (sym (members_first line lines told.0 told.1)) in
+    let rest = grows lines (before ++ said.0 ∷ []) (next_tree before tree last bucket so_far path item some less both.1) path (is_bucket item) next
+    (subst (λ (more : List Member). RightAfter (before ++ more) lines) (member_alone line said.0 said.1) right.1) in
+    let same : (before ++ said.0 ∷ []) ++ members_of_lines lines ≡ before ++ members_of_lines (line ∷ lines) =
+    append_assoc before (said.0 ∷ []) (members_of_lines lines) ∙ ap (λ more. before ++ more) (sym (members_first line lines said.0 said.1)) in
     (rest.0, rest.1 ∙ same, subst (Rises member_cmp) same rest.2)
 
 pub text_tree : (text : Text) → IsListingText text → (tree : Tree) × (listing_of tree ≡ text_members text) × Rises member_cmp (text_members text)

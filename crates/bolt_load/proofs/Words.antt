@@ -5,8 +5,8 @@ pub use Rattle.bolt_lemmas.specs.Order.{Rises}
 pub use Rattle.bolt_check.specs.Keys.{Key}
 pub use Rattle.bolt_layout.specs.Storable.{IsFitItem}
 pub use Rattle.bolt_load.specs.LineFaults.{IsFaultOfLines, IsFirstFault, IsListingText, IsLoadFault, RightAfter, is_above_last, is_long_item}
-pub use Rattle.bolt_load.specs.LineFaults.{is_long_key, length_fault, line_fault, path_above, place_fault, shape_fault}
-pub use Rattle.bolt_load.specs.Private.Decoding.{AddsDecoded, AreDecoded, BeginsWith, GivesLine, StopsAt, item_bytes, member_bytes, path_bytes}
+pub use Rattle.bolt_load.specs.LineFaults.{is_long_key, length_fault, line_fault, place_fault, shape_fault}
+pub use Rattle.bolt_load.specs.Private.Decoding.{AddsDecoded, AreDecoded, BeginsWith, GivesLine, StopsAt, member_bytes, path_bytes}
 pub use Rattle.bolt_load.specs.Private.OpenPaths.{fault_after, order_fault, is_open}
 unfoldable pub use Rattle.bolt_load.specs.ShownMembers.{members_left, members_path}
 pub use Rattle.bolt_load.specs.declared.load_fault.LineFault.{LineFault}
@@ -24,10 +24,10 @@ pub use Rattle.bolt_text.specs.ListLines.{hex_path, listing_text}
 unfoldable pub use Rattle.bolt_text.specs.ListLines.{item_end, member_line, value_end}
 pub use Rattle.bolt_text.specs.Numbers.{number_in}
 pub use Rattle.bolt_tree.proofs.Exports.{begins_of, path_total}
-pub use Rattle.bolt_tree.specs.Entries.{Bucket, Item, Value}
+pub use Rattle.bolt_tree.specs.Entries.{Bucket, Item, Value, item_bytes}
 pub use Rattle.bolt_tree.specs.Listing.{Member, member_cmp}
 pub use Rattle.bolt_tree.specs.ListingParts.{begins_with, has_bucket, is_bucket}
-pub use Rattle.bolt_tree.specs.Paths.{Path, path_cmp, path_of}
+pub use Rattle.bolt_tree.specs.Paths.{Path, path_above, path_cmp, path_of}
 pub use Rattle.bolt_tree.specs.ShownEntries.{item_view}
 pub use Rattle.bolt_tree.specs.Tree.{Tree, end, listing_below, listing_of, with_bucket, with_value}
 pub use Rattle.hex.specs.Hex.{digit_or_error, encode_lower, hex_digit_value, lower_digits, pair_value, value_at, ◌>>=◌}

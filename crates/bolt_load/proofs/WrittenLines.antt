@@ -119,9 +119,9 @@ bucket_parts : (path : Path) (sequence : ℕ) → ArePartsBytes path → sequenc
     → slice_split (λ byte. byte == 32) (hex_path path ++ (codes " bucket " ++ decimal sequence)) ≡ hex_path path ∷ codes "bucket" ∷ decimal sequence ∷ []
 bucket_parts path sequence are fits = grind (arith, slice_split_at, path_without, space_apart, slice_split_none, decimal_without)
 
-told : (path : Path) (item : Item) (found : Option Path) (other : Option Item) → found ≡ Some path → other ≡ Some item
+said : (path : Path) (item : Item) (found : Option Path) (other : Option Item) → found ≡ Some path → other ≡ Some item
     → member_of found other ≡ Some (path, item)
-told path item found other is same = ap₂ member_of is same
+said path item found other is same = ap₂ member_of is same
 
 pub line_back : (member : Member) → 0 < length member.0 → FitsMember member → IsMemberOfBytes member → line_member (member_words member) ≡ Some member
 unfolding line_member

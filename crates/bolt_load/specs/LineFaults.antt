@@ -3,7 +3,7 @@ use Rattle.std.specs.Prelude.{◌≡◌, ◌+◌, ◌-◌, ◌⊎◌, ℕ, Bool,
 use Rattle.std.specs.Prelude.{option_and_then, slice_get, take, if◌then◌else◌}
 use Rattle.std.specs.{List.ends_with, List.list_any, Option.option_map_or, Option.option_or, Ordering.is_lt}
 use Rattle.bolt_check.specs.Keys.{Key}
-use Rattle.bolt_tree.specs.{Entries.Bucket, Entries.Item, Entries.Value, Listing.Member, ListingParts.has_bucket, Paths.Path, Paths.path_cmp}
+use Rattle.bolt_tree.specs.{Entries.Bucket, Entries.Item, Entries.Value, Listing.Member, ListingParts.has_bucket, Paths.Path, Paths.path_above, Paths.path_cmp}
 use Rattle.bolt_text.specs.{LineMembers.line_member, LineMembers.members_of_lines, Lines.Text, Lines.lines_of}
 use Rattle.bolt_load.specs.{declared.load_fault.LineFault.LineFault, declared.load_fault.LoadFault.LoadFault}
 use Rattle.bolt_load.specs.declared.load_fault.LoadFault.TheVariants.{Line, Memory}
@@ -23,10 +23,6 @@ length_fault member = if list_any is_long_key member.0 then Some KeyTooLong else
 -- a path above that of the last member before it
 abbrev pub is_above_last : List Member → Path → Bool
 is_above_last before path = option_map_or (λ (last : Member). is_lt (path_cmp last.0 path)) (slice_get before (length before - 1)) true
-
--- the bucket that a path is in
-abbrev pub path_above : Path → Path
-path_above path = take (length path - 1) path
 
 -- the place of a member after those before it
 abbrev pub place_fault : List Member → Member → Option LineFault

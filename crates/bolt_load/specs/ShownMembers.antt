@@ -1,5 +1,5 @@
 -- What the text of a listing shows, and what its members show: the text, the part of it that is left, and the path of the last member.
-use Rattle.std.specs.Prelude.{List}
+use Rattle.std.specs.Prelude.{List, ⊤}
 use Rattle.bolt_tree.specs.{Listing.Member, Paths.Path, Paths.path_of}
 use Rattle.bolt_text.specs.{LineMembers.text_members, Lines.Text}
 use Rattle.bolt_load.specs.{declared.line_members.LineMembers.LineMembers, declared.listing_text.ListingText.ListingText}
@@ -23,3 +23,8 @@ members_path members = path_of members.path.items
 -- the path of the member before that
 unfoldable pub members_before : LineMembers → Path
 members_before members = path_of members.path_before.items
+
+-- all that members of a text show, to be unfolded together
+unfoldable pub members_viewers : ⊤
+unfolding members_before members_left members_path members_text
+members_viewers = tt

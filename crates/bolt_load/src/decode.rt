@@ -98,8 +98,8 @@ fn has_long_key(word: &[u8]) -> bool
 }
 
 fn is_long_item(item: &ItemWord<'_>) -> bool
-    ensures { (told : entries.Item) → word_item item.now ≡ Some told
-        → result ≡ faults.is_long_item told }
+    ensures { (said : entries.Item) → word_item item.now ≡ Some said
+        → result ≡ faults.is_long_item said }
 {
     match item {
         ItemWord::Digits(digits) => digits.len() / 2 > MAX_VALUE_LEN,

@@ -1,9 +1,9 @@
 //! The members that the lines of a text tell.
 ghost use Rattle.std.specs.Option.{option_map};
 ghost use Rattle.std.specs.Prelude.{◌≡◌, ◌<◌, ◌++◌, [], IfOk, IfNone, IfSome, IsSomeAnd, List, OnErr, Some, length};
-ghost use Rattle.bolt_tree.specs.{Listing.Member, Paths.Path, Paths.path_of, ShownEntries.item_view, Walks.GivesNext};
+ghost use Rattle.bolt_tree.specs.{Entries.item_bytes, Listing.Member, Paths.Path, Paths.path_of, ShownEntries.item_view, Walks.GivesNext};
 ghost use Rattle.bolt_text.specs.{HexPaths.hex_path_in, LineMembers.text_members, Lines.lines_of};
-ghost use Rattle.bolt_load.specs.Private.Decoding.{AreDecoded, BeginsWith, GivesLine, item_bytes, path_bytes};
+ghost use Rattle.bolt_load.specs.Private.Decoding.{AreDecoded, BeginsWith, GivesLine, path_bytes};
 ghost use Rattle.bolt_text.specs.LineWords.{word_item};
 
 use bolt_text::{ItemWord, cut_at, first_line, words_of};
@@ -26,7 +26,7 @@ pub struct LineMembers<'a> {
     ghost ahead: { AreDecoded (lines_of text_left.now) bytes_left.now },
 }
 
-#[tactic(auto, unfolding(crate::specs::ShownMembers::members_before, crate::specs::ShownMembers::members_left, crate::specs::ShownMembers::members_path, crate::specs::ShownMembers::members_text))]
+#[tactic(auto, unfolding(crate::specs::ShownMembers::members_viewers))]
 impl<'a> LineMembers<'a> {
     ghost use Rattle.bolt_load.specs.ShownMembers.{listing_left, members_before, members_left, members_path, members_text};
 
@@ -100,10 +100,10 @@ fn push_parts<'a>(
     bytes: &'a [u8],
     path: &mut Vec<&'a [u8]>,
 ) -> Result<&'a [u8], AllocError>
-    requires { IsSomeAnd (hex_path_in word.now) (λ told. BeginsWith (path_bytes told) bytes.now) }
-    ensures { IfOk result (λ rest. (told : Path) → hex_path_in word.now ≡ Some told
-        → (path_of path.new.items ≡ path_of path.old.items ++ told)
-        × (bytes.now ≡ path_bytes told ++ rest.now)) }
+    requires { IsSomeAnd (hex_path_in word.now) (λ said. BeginsWith (path_bytes said) bytes.now) }
+    ensures { IfOk result (λ rest. (said : Path) → hex_path_in word.now ≡ Some said
+        → (path_of path.new.items ≡ path_of path.old.items ++ said)
+        × (bytes.now ≡ path_bytes said ++ rest.now)) }
 {
     let mut word_left = word;
     let mut bytes_left = bytes;
@@ -120,7 +120,7 @@ fn push_parts<'a>(
 
 /// What a word tells, whose bytes come first, and the bytes after them.
 fn item_of<'a>(word: &ItemWord<'_>, bytes: &'a [u8]) -> (Item<'a>, &'a [u8])
-    requires { IsSomeAnd (word_item word.now) (λ told. BeginsWith (item_bytes told) bytes.now) }
+    requires { IsSomeAnd (word_item word.now) (λ said. BeginsWith (item_bytes said) bytes.now) }
     ensures item { Some (item_view result.0) ≡ word_item word.now }
     ensures rest { bytes.now ≡ item_bytes (item_view result.0) ++ result.1.now }
 {
@@ -138,7 +138,7 @@ fn item_of<'a>(word: &ItemWord<'_>, bytes: &'a [u8]) -> (Item<'a>, &'a [u8])
     }
 }
 
-#[tactic(auto, unfolding(crate::specs::ShownMembers::members_before, crate::specs::ShownMembers::members_left, crate::specs::ShownMembers::members_path, crate::specs::ShownMembers::members_text))]
+#[tactic(auto, unfolding(crate::specs::ShownMembers::members_viewers))]
 impl<'a> Members<'a> for LineMembers<'a> {
     ghost use Rattle.bolt_load.specs.ShownMembers.{listing_left, members_left, members_path, members_text};
 

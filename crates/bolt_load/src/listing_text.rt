@@ -3,7 +3,6 @@
 ghost use Rattle.std.specs.List.{All};
 ghost use Rattle.std.specs.Prelude.{◌≡◌, ◌<◌, ◌≤◌, [], IfErr, IfOk, None, OnOk, length};
 ghost use Rattle.bolt_tree.specs.{Paths.path_of};
-ghost use Rattle.bolt_load.specs.LineFaults as faults;
 ghost use Rattle.bolt_load.specs.LineFaults.{IsFaultOfLines, IsListingText, IsLoadFault, RightAfter, shape_fault};
 ghost use Rattle.bolt_load.specs.declared.load_fault.LineFault.TheVariants.{CutOff};
 ghost use Rattle.bolt_load.specs.declared.load_fault.LoadFault.TheVariants.{Line};
@@ -14,7 +13,7 @@ ghost use Rattle.bolt_load.specs.Private.OpenPaths as open_paths;
 use crate::decode::decode;
 use crate::line_members::LineMembers;
 use crate::load_fault::{LineFault, LoadFault};
-use bolt_text::{is_before, is_below};
+use bolt_text::{is_before, is_below, path_above};
 use bolt_tree::{Item, Members};
 use std::alloc::Global;
 
@@ -73,14 +72,6 @@ impl<'a> ListingText<'a> {
     {
         LineMembers::new(alloc, self.text, self.bytes.as_slice())
     }
-}
-
-/// The path of the bucket that a path is in.
-fn path_above<'p, 'a>(path: &'p [&'a [u8]]) -> &'p [&'a [u8]]
-    requires { 0 < length path.now }
-    ensures { path_of result.now ≡ faults.path_above (path_of path.now) }
-{
-    &path[..path.len() - 1]
 }
 
 /// Whether a member may be in the bucket at a path: one that the last path goes through, or that it

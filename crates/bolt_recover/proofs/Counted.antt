@@ -5,7 +5,8 @@ use Rattle.std.proofs.lemmas.{Grind.flat_map-append, List.append-nil, List.lengt
 use Rattle.std.specs.List.{count_by}
 use Rattle.bolt_recover.proofs.Words.{Bucket, Item, Key, Member, Path, Value, sum_by-append, sum_by-cons}
 use Rattle.bolt_recover.specs.Private.Counting.{figures_after}
-use Rattle.bolt_recover.specs.States.{FiguresView, counted32, figures_of, first_name, is_root_value, last_name, root_bucket, root_buckets}
+use Rattle.bolt_recover.specs.States.{FiguresView, counted32, figures_of, first_name, is_root_value, root_bucket, root_buckets}
+use Rattle.bolt_tree.specs.Paths.{last_key}
 
 count_more : (p : Member → Bool) (xs : List Member) (m : Member) → count_by p (xs ++ m ∷ []) ≡ count_by p xs + cond (p m) 1 0
 count_more p xs m = let sum = sum_by-append (λ (x : Member). cond (p x) 1 0) xs (m ∷ []) in omega (arith, sum)
@@ -17,7 +18,7 @@ first_more : (names : List Key) (name : Key) → first_name (names ++ name ∷ [
 first_more [] name = refl
 first_more (x ∷ names) name = grind arith
 
-last_more : (names : List Key) (name : Key) → last_name (names ++ name ∷ []) ≡ name
+last_more : (names : List Key) (name : Key) → last_key (names ++ name ∷ []) ≡ name
 last_more [] name = refl
 last_more (x ∷ []) name = refl
 last_more (x ∷ y ∷ names) name = last_more (y ∷ names) name

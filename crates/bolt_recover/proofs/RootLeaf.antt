@@ -2,8 +2,7 @@
 use Rattle.std.proofs.Common.{◌≡◌, ◌≢◌, ◌∙◌, ◌⊎◌, ℕ, inl, inr, true, false, List, [], ◌∷◌, map, Option, Some, None, Ok, refl, sym, ap, subst, arith}
 use Rattle.std.proofs.Common.{cond}
 use Rattle.std.specs.List.{count_by}
-use Rattle.bolt_check.specs.Nodes.{node_of, node_seen}
-use Rattle.bolt_format.specs.{Pages.PageView, Pages.page_fault, TreePages.is_tree_kind, declared.header.Kind.Kind}
+use Rattle.bolt_format.specs.Pages.{PageView}
 use Rattle.bolt_recover.proofs.Words.{At_page, Contains, contains_cases, contains_head, contains_none, Finding, Gives, Has, IsClaimedIn, IsMetaPage}
 use Rattle.bolt_recover.proofs.Words.{IsRecovered, IsSurvey, item_of, KeepsRoot, LeafElement, leaf_entry, leaves_of, Member, Meta, Node, node_at}
 use Rattle.bolt_recover.proofs.Words.{page_at, passes_fewer, reached, root_site, root_spot, same_Some, Site, site_at, follow_sites, step_site, Spot}
@@ -28,19 +27,6 @@ value_counted (x ∷ l) m has is = λ none.
     ]
 
 module _ (file : List ℕ) (meta : Meta) where
-  -- a page that isn't good, or neither a branch nor a leaf, is lost
-  pub no_page : page_at file meta meta.root ≡ None → KeepsRoot file meta → ⊥
-  unfolding node_at
-  no_page none keeps = let page = keeps.page in grind (arith, none, page)
-
-  other_kind : (k : Kind) (view : PageView) (node : Node) → is_tree_kind k ≡ false → node_of k view ≡ Ok node → ⊥
-  other_kind k view node not is = grind arith
-
-  pub no_tree_page : (view : PageView) → page_at file meta meta.root ≡ Some view → is_tree_kind view.kind ≡ false → KeepsRoot file meta → ⊥
-  unfolding node_at
-  no_tree_page view at not keeps =
-      other_kind view.kind view keeps.node not (ap (λ (o : Option PageView). node_seen o (page_fault file meta meta.root)) (sym at) ∙ keeps.page)
-
   pub only_metas : (survey : List SurveyedWay) (n : ℕ) → IsClaimedIn (node_at file meta) (reached (node_at file meta) meta.root) survey [] n
       → IsMetaPage n
   only_metas survey n h = grind arith

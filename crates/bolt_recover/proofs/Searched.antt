@@ -10,7 +10,7 @@ use Rattle.bolt_recover.specs.{declared.lost_and_found.Trees.Trees}
 use Rattle.bolt_check.specs.{Counts.saturated, Sound.HasSoundTrees}
 use Rattle.bolt_check.proofs.Exports.{checked_trees}
 
--- what is told of the key
+-- what is reported of the key
 key_held : (listing : List Member) → holds_key listing ≡ true → HasBucketKey listing
 key_held [] e = absurd (cc)
 key_held (m ∷ listing) e = let later = key_held listing in grind (arith, or_cases, contains_head, contains_tail, later)

@@ -2,7 +2,7 @@
 use Rattle.std.proofs.Common.{◌≡◌, ◌∙◌, ◌⊎◌, ◌≢◌, ◌<◌, ◌++◌, inl, inr, ℕ, Bool, true, false, ap, IfNone, IfSome, Option, Some, None, List, [], ◌∷◌}
 use Rattle.std.proofs.Common.{length, refl, sym, subst, arith}
 use Rattle.bolt_recover.proofs.Words.{∥∥₁_elim, props, false≢true, Contains, Contains-append_cases, Contains-append_left, Contains-append_right}
-use Rattle.bolt_recover.proofs.Words.{contains_cases, contains_head, contains_none, At_page, Finding, LosesRoot, Key, Member, ForLosses, ForRecovered}
+use Rattle.bolt_recover.proofs.Words.{contains_cases, contains_head, contains_none, At_page, Key, Member, ForLosses, ForRecovered}
 use Rattle.bolt_recover.proofs.Words.{IsMetaPage, KeepsRoot, node_at, passes_silent, root_spot}
 use Rattle.bolt_recover.proofs.{Existing.has_losses, Existing.has_recovered, StatesGrow.grow, StatesGrow.stay}
 use Rattle.bolt_recover.specs.States.{AreExactly, HasBucketsAlone, IsKept, IsLost, PlaceView, StateView, counted32, figures_of, meta_at, root_buckets}
@@ -121,9 +121,6 @@ module _ (file : List ℕ) where
 
   pub value_alone : (place : PlaceView) → IsCountedState file (meta_at file place) true place None → HasBucketsAlone file (meta_at file place) → ⊥
   value_alone place counted (keeps, has) = let (l, recovers) = has_recovered file (meta_at file place) in counted.1 l recovers (has l recovers).1
-
-  pub lost_alone : (place : PlaceView) (x : Finding) → LosesRoot file (meta_at file place) x → HasBucketsAlone file (meta_at file place) → ⊥
-  lost_alone place x loses (keeps, has) = passes_silent (node_at file (meta_at file place)) IsMetaPage (At_page (root_spot place.root)) x keeps loses
 
   -- the state with a bucket, if there is one
   pub bucket_at : (place : PlaceView) (o r : Option State) → KeepsRoot file (meta_at file place)

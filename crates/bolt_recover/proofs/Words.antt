@@ -39,7 +39,7 @@ pub use Rattle.bolt_recover.specs.Sites.{Site, elements_at, follow_sites, leaves
 pub use Rattle.bolt_recover.specs.Private.FoundLeft.{found_listing, found_pages_of}
 pub use Rattle.bolt_recover.specs.Private.Frames.{Advances, AreOpenPages, Ends, GivesHead, StepsOn, IsAllLeft, IsContent, IsGoodKeptPage, IsGoodPage}
 pub use Rattle.bolt_recover.specs.Private.Frames.{StepsAreOn, AreStepsPlaced}
-pub use Rattle.bolt_recover.specs.Private.Frames.{IsShallow, StaysOn, ahead_tasks, claims_with, content_elements, content_site, content_size}
+pub use Rattle.bolt_recover.specs.Private.Frames.{IsShallow, ahead_tasks, claims_with, content_elements, content_site, content_size}
 pub use Rattle.bolt_check.specs.Claims.{claims_nodes}
 pub use Rattle.bolt_recover.specs.Private.Frames.{content_spot, members_left, open_tasks, page_tasks, page_weight, spot_site, step_path, steps_left}
 pub use Rattle.bolt_recover.specs.Private.Frames.{steps_path, steps_weight, tally_of, tasks_left, way_of}
@@ -65,9 +65,8 @@ pub use Rattle.bolt_recover.specs.declared.lost_and_found.Trees.TheVariants.{Dam
 pub use Rattle.bolt_recover.specs.{declared.steps.NextVisit.NextVisit}
 unfoldable pub use Rattle.bolt_recover.specs.JoinedMembers.{joined_file, joined_left, joined_meta, joined_path}
 unfoldable pub use Rattle.bolt_recover.specs.LostAndFound.{all_lost}
-unfoldable pub use Rattle.bolt_recover.specs.Recoveries.{recovery_begun, recovery_claimed, recovery_file, recovery_gaps, recovery_left}
-unfoldable pub use Rattle.bolt_recover.specs.Recoveries.{recovery_losses, recovery_meta}
-unfoldable pub use Rattle.bolt_recover.specs.Recoveries.{recovery_visited, recovery_work}
+unfoldable pub use Rattle.bolt_recover.specs.Recoveries.{recovery_begun, recovery_claimed, recovery_file, recovery_left, recovery_losses}
+unfoldable pub use Rattle.bolt_recover.specs.Recoveries.{recovery_meta, recovery_work}
 pub use Rattle.bolt_tree.proofs.Exports.{contains_at}
 pub use Rattle.bolt_tree.proofs.Exports.{before_longer, key_same, key_total, same_front, lists_once, member_total}
 pub use Rattle.bolt_tree.specs.Entries.{Bucket, Inline_page, IsEntry, Item, Root_page, ShowsEntry, Start, Value, item_of, start_of}

@@ -1,5 +1,5 @@
 -- What the members of the joined listing show.
-use Rattle.std.specs.Prelude.{ℕ, List}
+use Rattle.std.specs.Prelude.{ℕ, List, ⊤}
 use Rattle.bolt_format.specs.declared.meta.Meta.{Meta}
 use Rattle.bolt_tree.specs.{Listing.Member, Merging.merged_left, Merging.merged_path, Merging.merged_work, Paths.Path}
 use Rattle.bolt_recover.specs.{Joined.IsJoined, KeptMembers.kept_left, KeptMembers.kept_path, KeptMembers.kept_work}
@@ -24,6 +24,11 @@ joined_work joined = merged_work kept_work found_work joined.members
 -- the path of the last joined member that was returned
 unfoldable pub joined_path : JoinedListing → Path
 joined_path joined = merged_path kept_path found_path joined.members
+
+-- all that joined members show, to be unfolded together
+unfoldable pub joined_viewers : ⊤
+unfolding joined_file joined_left joined_meta joined_path joined_work
+joined_viewers = tt
 
 -- What is promised of the joined listing is promised for each; there is exactly one (`laws`).
 abbrev pub ForJoined : List ℕ → Meta → (List Member → Type 0) → Type 0

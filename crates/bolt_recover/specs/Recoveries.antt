@@ -1,5 +1,5 @@
 -- What a recovery shows: the file that it reads, the part of the recovered listing that is left, and the losses so far.
-use Rattle.std.specs.Prelude.{◌≡◌, ℕ, Bool, List, [], ◌++◌, Option, length, map, take}
+use Rattle.std.specs.Prelude.{◌≡◌, ℕ, Bool, List, [], ◌++◌, Option, length, map, take, ⊤}
 use Rattle.std.specs.Option.{option_map}
 use Rattle.bolt_format.specs.declared.meta.Meta.{Meta}
 use Rattle.bolt_check.specs.{Claims.claims_file, Claims.claims_visited, Claims.is_claimed, Counts.counted}
@@ -45,6 +45,11 @@ recovery_losses recovery = map loss_view recovery.steps.losses.items
 -- the gaps that a recovery has reported so far
 unfoldable pub recovery_gaps : Recovery → List PageGapView
 recovery_gaps recovery = map page_gap_view recovery.steps.gaps.items
+
+-- all that a recovery shows, to be unfolded together
+unfoldable pub recovery_viewers : ⊤
+unfolding recovery_begun recovery_claimed recovery_file recovery_gaps recovery_left recovery_losses recovery_meta recovery_path recovery_visited recovery_work
+recovery_viewers = tt
 
 -- The first member of the recovered listing that was left is given, with its path, and the others are left; or none was left, and none is.
 abbrev pub GivesRecovered : Recovery → Recovery → Option Item → Type 0

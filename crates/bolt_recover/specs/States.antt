@@ -5,7 +5,7 @@ use Rattle.std.specs.{List.count_by, List.flat_map, List.Sorted.IsSortedBy, Orde
 use Rattle.std.specs.{declared.cmp.Ordering.Ordering}
 use Rattle.bolt_check.specs.{Counts.saturated, Keys.Key, declared.finding.Finding.Finding}
 use Rattle.bolt_format.specs.{Assumed.assumed_meta, Metas.IsInSlot, declared.meta.Meta.Meta, declared.meta.Slot.Slot}
-use Rattle.bolt_tree.specs.{Entries.Bucket, Entries.Value, Listing.Member}
+use Rattle.bolt_tree.specs.{Entries.Bucket, Entries.Value, Listing.Member, Paths.last_key}
 use Rattle.bolt_recover.specs.{Recovered.ForRecovered, Recoveries.ForLosses, Refusals.KeepsRoot, Refusals.LosesRoot}
 
 -- ---- what a listing has
@@ -31,15 +31,10 @@ abbrev pub is_root_value : Member → Bool
 is_root_value (key ∷ [], Value value) = true
 is_root_value _ = false
 
--- the first and the last of some names; no bytes if there is none
+-- the first of some names; no bytes if there is none
 abbrev pub first_name : List Key → Key
 first_name [] = []
 first_name (name ∷ names) = name
-
-abbrev pub last_name : List Key → Key
-last_name [] = []
-last_name (name ∷ []) = name
-last_name (name ∷ next ∷ names) = last_name (next ∷ names)
 
 -- a count of losses or of buckets: at most 2^32 - 1
 abbrev pub counted32 : ℕ → ℕ
@@ -58,7 +53,7 @@ abbrev pub figures_of : List Member → FiguresView
 figures_of listing = record {
   buckets = counted32 (length (root_buckets listing));
   first = first_name (root_buckets listing);
-  last = last_name (root_buckets listing);
+  last = last_key (root_buckets listing);
   all_buckets = counted32 (count_by is_bucket_member listing);
   values = saturated (count_by is_value_member listing);
 }
@@ -91,7 +86,7 @@ IsRootPage file page_size place =
 abbrev pub IsState : List ℕ → (page_size : ℕ) → PlaceView → Type 0
 IsState file page_size place = IsMetaRoot file place ⊎ IsRootPage file page_size place
 
--- ---- what is told of a state
+-- ---- what is reported of a state
 
 -- A state whose root page is kept, with the number of losses, at most 2^32 - 1, and the figures of what is recovered.
 pub record StateView : Type 0 where

@@ -36,20 +36,20 @@ pub struct JoinedListing<'a> {
 const NAMES: u64 = 10_000_000_000_000_000;
 
 /// Tests whether there is a joined listing of a file that was searched.
-fn test_join(both: &LostAndFound<'_>) -> Result<(), RecoverFault>
-    ensures apart { OnOk result (both.now.found.items ≢ []
-        → ForRecovered both.now.file.now both.now.meta LacksBucketKey) }
-    ensures some { OnOk result ((x : Finding) → all_lost both.now ≡ everything x
-        → both.now.found.items ≢ []) }
-    ensures few { OnOk result (length both.now.file.now < 10 ^ 16 * both.now.meta.page_size) }
+fn test_join(searched: &LostAndFound<'_>) -> Result<(), RecoverFault>
+    ensures apart { OnOk result (searched.now.found.items ≢ []
+        → ForRecovered searched.now.file.now searched.now.meta LacksBucketKey) }
+    ensures some { OnOk result ((x : Finding) → all_lost searched.now ≡ everything x
+        → searched.now.found.items ≢ []) }
+    ensures few { OnOk result (length searched.now.file.now < 10 ^ 16 * searched.now.meta.page_size) }
     ensures refused { IfErr result
-        (IsJoinRefusal both.now.file.now both.now.meta (found_numbers both.now.found.items)) }
+        (IsJoinRefusal searched.now.file.now searched.now.meta (found_numbers searched.now.found.items)) }
 {
-    if both.file.len() as u64 / u64::from(both.meta.page_size) >= NAMES {
+    if searched.file.len() as u64 / u64::from(searched.meta.page_size) >= NAMES {
         return Err(RecoverFault::TooManyPages);
     }
-    let some = !both.found.is_empty();
-    match &both.trees {
+    let some = !searched.found.is_empty();
+    match &searched.trees {
         Trees::Sound(_) => Ok(()),
         Trees::Damaged(damage) => {
             if some && damage.has_bucket_key {
@@ -66,7 +66,7 @@ fn test_join(both: &LostAndFound<'_>) -> Result<(), RecoverFault>
     }
 }
 
-#[tactic(auto, unfolding(crate::specs::JoinedMembers::joined_file, crate::specs::JoinedMembers::joined_left, crate::specs::JoinedMembers::joined_meta, crate::specs::JoinedMembers::joined_path))]
+#[tactic(auto, unfolding(crate::specs::JoinedMembers::joined_viewers))]
 impl<'a> JoinedListing<'a> {
     ghost use Rattle.bolt_recover.specs.JoinedMembers.{ForJoined, joined_file, joined_left, joined_meta, joined_path};
 
@@ -79,34 +79,37 @@ impl<'a> JoinedListing<'a> {
     /// `Rootless` if the root page is lost and no page is found; `Exists` if a page is found and the
     /// recovered root bucket has an entry `lost+found`; `TooManyPages` if the file has 10^16 pages or more;
     /// `Memory` if memory runs out.
-    pub fn new(alloc: Global, both: &'a LostAndFound<'_>) -> Result<JoinedListing<'a>, RecoverFault>
-        ensures file { IfOk result (λ joined. joined_file joined ≡ both.now.file.now) }
-        ensures meta { IfOk result (λ joined. joined_meta joined ≡ both.now.meta) }
+    pub fn new(
+        alloc: Global,
+        searched: &'a LostAndFound<'_>,
+    ) -> Result<JoinedListing<'a>, RecoverFault>
+        ensures file { IfOk result (λ joined. joined_file joined ≡ searched.now.file.now) }
+        ensures meta { IfOk result (λ joined. joined_meta joined ≡ searched.now.meta) }
         ensures all { IfOk result (λ joined.
-            ForJoined both.now.file.now both.now.meta (λ listing.
+            ForJoined searched.now.file.now searched.now.meta (λ listing.
             joined_left joined listing ≡ listing)) }
         ensures path { IfOk result (λ joined. joined_path joined ≡ []) }
-        ensures apart { OnOk result (both.now.found.items ≢ []
-            → ForRecovered both.now.file.now both.now.meta LacksBucketKey) }
-        ensures some { OnOk result ((x : Finding) → all_lost both.now ≡ everything x
-            → both.now.found.items ≢ []) }
-        ensures few { OnOk result (length both.now.file.now < 10 ^ 16 * both.now.meta.page_size) }
+        ensures apart { OnOk result (searched.now.found.items ≢ []
+            → ForRecovered searched.now.file.now searched.now.meta LacksBucketKey) }
+        ensures some { OnOk result ((x : Finding) → all_lost searched.now ≡ everything x
+            → searched.now.found.items ≢ []) }
+        ensures few { OnOk result (length searched.now.file.now < 10 ^ 16 * searched.now.meta.page_size) }
         ensures refused { IfErr result
-            (IsJoinRefusal both.now.file.now both.now.meta (found_numbers both.now.found.items)) }
+            (IsJoinRefusal searched.now.file.now searched.now.meta (found_numbers searched.now.found.items)) }
     {
-        test_join(both)?;
-        let kept = RecoveredListing::of(alloc, both)?;
-        let found = both.found.as_slice();
+        test_join(searched)?;
+        let kept = RecoveredListing::of(alloc, searched)?;
+        let found = searched.found.as_slice();
         Ok(JoinedListing {
             members: Merged::new(kept, FoundMembers::new(found)),
-            file: both.file,
-            meta: both.meta,
+            file: searched.file,
+            meta: searched.meta,
             found,
         })
     }
 }
 
-#[tactic(auto, unfolding(crate::specs::JoinedMembers::joined_file, crate::specs::JoinedMembers::joined_left, crate::specs::JoinedMembers::joined_meta, crate::specs::JoinedMembers::joined_path, crate::specs::JoinedMembers::joined_work))]
+#[tactic(auto, unfolding(crate::specs::JoinedMembers::joined_viewers))]
 impl<'a> Members<'a> for JoinedListing<'a> {
     ghost use Rattle.bolt_recover.specs.JoinedMembers.{joined_file, joined_left, joined_meta, joined_path, joined_work};
 

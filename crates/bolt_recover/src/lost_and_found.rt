@@ -58,11 +58,11 @@ impl<'a> LostAndFound<'a> {
     /// `NoMemory` if memory runs out.
     pub fn under(alloc: Global, file: &'a [u8], meta: Meta) -> Result<LostAndFound<'a>, NoMemory>
         requires { 0 < meta.page_size }
-        ensures file { IfOk result (λ both. both.file.now ≡ file.now) }
-        ensures meta { IfOk result (λ both. both.meta ≡ meta) }
-        ensures lost { IfOk result (λ both. IsAllLost file.now meta (all_lost both)) }
-        ensures found { IfOk result (λ both. AreFound file.now meta (found_numbers both.found.items)) }
-        ensures views { IfOk result (λ both. All (IsFoundView file.now meta) both.found.items) }
+        ensures file { IfOk result (λ searched. searched.file.now ≡ file.now) }
+        ensures meta { IfOk result (λ searched. searched.meta ≡ meta) }
+        ensures lost { IfOk result (λ searched. IsAllLost file.now meta (all_lost searched)) }
+        ensures found { IfOk result (λ searched. AreFound file.now meta (found_numbers searched.found.items)) }
+        ensures views { IfOk result (λ searched. All (IsFoundView file.now meta) searched.found.items) }
     {
         match check_under(alloc, file, meta) {
             Ok(checked) => {
@@ -83,10 +83,10 @@ impl<'a> LostAndFound<'a> {
     fn of_damaged(alloc: Global, file: &'a [u8], meta: Meta) -> Result<LostAndFound<'a>, NoMemory>
         requires size { 0 < meta.page_size }
         requires damaged { HasSoundTrees file.now meta → ⊥ }
-        ensures file { IfOk result (λ both. both.file.now ≡ file.now) }
-        ensures meta { IfOk result (λ both. both.meta ≡ meta) }
-        ensures searched { IfOk result (λ both.
-            IsSearched file.now meta both.trees both.found.items) }
+        ensures file { IfOk result (λ searched. searched.file.now ≡ file.now) }
+        ensures meta { IfOk result (λ searched. searched.meta ≡ meta) }
+        ensures searched { IfOk result (λ searched.
+            IsSearched file.now meta searched.trees searched.found.items) }
     {
         match Recovery::under(alloc, file, meta) {
             Ok(recovery) => {

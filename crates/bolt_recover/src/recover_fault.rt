@@ -7,7 +7,7 @@ use bolt_check::{Finding, NoMemory};
 /// Why there is no joined listing of a damaged file (docs/RECOVERY.md, "The joined listing").
 #[derive(Clone, Copy, Debug, PartialEq, Eq)]
 pub enum RecoverFault {
-    /// The root page is lost, with this finding, and nothing that is found is in the listing.
+    /// The root page is lost, with this finding, and no page is found.
     Rootless(Finding),
     /// A page is found, and the recovered root bucket has an entry `lost+found`.
     Exists,

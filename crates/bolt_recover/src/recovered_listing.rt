@@ -42,23 +42,23 @@ impl<'a> RecoveredListing<'a> {
     /// # Errors
     ///
     /// `NoMemory` if memory runs out.
-    pub fn of(alloc: Global, both: &LostAndFound<'a>) -> Result<RecoveredListing<'a>, NoMemory>
-        ensures file { IfOk result (λ kept. kept_file kept ≡ both.now.file.now) }
-        ensures meta { IfOk result (λ kept. kept_meta kept ≡ both.now.meta) }
-        ensures all { IfOk result (λ kept. ForRecovered both.now.file.now both.now.meta (λ listing.
+    pub fn of(alloc: Global, searched: &LostAndFound<'a>) -> Result<RecoveredListing<'a>, NoMemory>
+        ensures file { IfOk result (λ kept. kept_file kept ≡ searched.now.file.now) }
+        ensures meta { IfOk result (λ kept. kept_meta kept ≡ searched.now.meta) }
+        ensures all { IfOk result (λ kept. ForRecovered searched.now.file.now searched.now.meta (λ listing.
             kept_left kept listing ≡ listing)) }
         ensures path { IfOk result (λ kept. kept_path kept ≡ []) }
     {
-        match &both.trees {
+        match &searched.trees {
             Trees::Sound(checked) => Ok(RecoveredListing::Sound(Walk::new(alloc, *checked))),
             // The root page is kept, so only memory can be refused.
-            Trees::Damaged(_) => match Recovery::under(alloc, both.file, both.meta) {
+            Trees::Damaged(_) => match Recovery::under(alloc, searched.file, searched.meta) {
                 Ok(recovery) => Ok(RecoveredListing::Recovery(recovery)),
                 Err(_) => Err(NoMemory),
             },
             Trees::Rootless(_) => Ok(RecoveredListing::Rootless(LostRoot {
-                file: both.file,
-                meta: both.meta,
+                file: searched.file,
+                meta: searched.meta,
             })),
         }
     }

@@ -41,9 +41,9 @@ pub struct Recovery<'a> {
     ghost root: { ∥ KeepsRoot (claims_file steps.claims) meta ∥₁ },
 }
 
-#[tactic(auto, unfolding(crate::specs::Recoveries::recovery_begun, crate::specs::Recoveries::recovery_claimed, crate::specs::Recoveries::recovery_file, crate::specs::Recoveries::recovery_gaps, crate::specs::Recoveries::recovery_left, crate::specs::Recoveries::recovery_losses, crate::specs::Recoveries::recovery_meta, crate::specs::Recoveries::recovery_path, crate::specs::Recoveries::recovery_visited, crate::specs::Recoveries::recovery_work))]
+#[tactic(auto, unfolding(crate::specs::Recoveries::recovery_viewers))]
 impl<'a> Recovery<'a> {
-    ghost use Rattle.bolt_recover.specs.{Private.Joining.TellsBucketKey, Private.TreesLeft.IsSearched};
+    ghost use Rattle.bolt_recover.specs.{Private.Joining.ReportsBucketKey, Private.TreesLeft.IsSearched};
     ghost use Rattle.bolt_recover.specs.declared.lost_and_found.Trees.TheVariants as Trees;
     ghost use Rattle.bolt_recover.specs.Recoveries.{AreFirst, ForLosses, GivesRecovered, HasReportedAll, HasReportedGaps, HasVisitedAll, LeavesNone};
     ghost use Rattle.bolt_recover.specs.Recoveries.{LeavesRecovered, LeavesRest, recovery_begun, recovery_claimed, recovery_file, recovery_gaps};
@@ -262,7 +262,7 @@ impl<'a> Recovery<'a> {
         ensures under { claims_meta self.new.steps.claims ≡ self.old.meta }
         ensures has { IfOk result (λ (has, members).
             ForRecovered (recovery_file self.old) (recovery_meta self.old) (λ listing.
-            TellsBucketKey listing has)) }
+            ReportsBucketKey listing has)) }
         ensures number { IfOk result (λ (has, members).
             ForRecovered (recovery_file self.old) (recovery_meta self.old) (λ listing.
             members ≡ saturated (length listing))) }

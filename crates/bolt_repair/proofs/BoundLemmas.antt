@@ -1,7 +1,7 @@
 -- The greatest of some bounds, and what lies within it.
-use Rattle.std.proofs.Common.{◌≡◌, ◌∙◌, ◌≤◌, ◌<◌, ◌+◌, ◌&&◌, inl, inr, ℕ, Bool, true, false, List, [], ◌∷◌, Option, Some, None, ap, ap₂, arith}
-use Rattle.std.proofs.Common.{cond, drop, get_or, length, map, max, not, refl, subst, suc, sym}
-use Rattle.std.proofs.{Math.Seq.drop-cons, lemmas.Bool.cases_lt, lemmas.Slice.Eq.bytes_eq-Decides}
+use Rattle.std.proofs.Common.{◌≡◌, ◌∙◌, ◌≤◌, ◌&&◌, inl, inr, ℕ, Bool, true, false, List, [], ◌∷◌, Option, Some, None, ap, ap₂, arith}
+use Rattle.std.proofs.Common.{cond, not, refl, subst, sym}
+use Rattle.std.proofs.{lemmas.Bool.cases_lt, lemmas.Slice.Eq.bytes_eq-Decides}
 use Rattle.std.specs.{Cmp.nat_cmp_is, List.Contains, Ordering.bool_cmp, Ordering.is_lt, Ordering.nat_cmp, Ordering.ordering_then, Str.bytes_eq}
 use Rattle.std.specs.{declared.cmp.Ordering.Ordering, declared.cmp.Ordering.TheVariants.Greater}
 use Rattle.bolt_lemmas.proofs.Exports.{contains_cases, contains_none}
@@ -13,7 +13,7 @@ use Rattle.bolt_repair.proofs.{ReadablePaths.readable_entry, ReadablePaths.revis
 use Rattle.bolt_recover.specs.Recovered.{IsRecovered}
 use Rattle.bolt_recover.specs.Losses.{LossView, LostView, everything, parts}
 use Rattle.bolt_etcd.proofs.Exports.{bind_some}
-use Rattle.bolt_etcd.specs.{Wire.Others.No_record, Wire.Others.OtherView, Wire.Others.Other_key, Wire.RevisionKeys.IsSpelled}
+use Rattle.bolt_etcd.specs.{Wire.UnreadEntries.No_record, Wire.UnreadEntries.UnreadView, Wire.UnreadEntries.Other_key, Wire.RevisionKeys.IsSpelled}
 use Rattle.bolt_etcd.specs.{Wire.RevisionKeys.numbers_cmp, Wire.RevisionKeys.revision_key, Wire.RevisionKeys.spelling, Wire.Revisions.RevisionView}
 use Rattle.bolt_etcd.specs.{Wire.Revisions.revision_in, Wire.Revisions.revision_of, Wire.Revisions.value_of}
 use Rattle.bolt_etcd.specs.{declared.wire.revision_key.RevisionKey.RevisionKey}
@@ -23,23 +23,6 @@ use Rattle.bolt_repair.specs.Bounds.{MayLose, MayTake, MayTakeOn, bound_below, b
 use Rattle.bolt_repair.specs.Bounds.{bound_of_other, bound_of_others, bound_on, greater, holds_store, is_name_before, is_name_from, repair_bound}
 use Rattle.bolt_repair.specs.declared.bound.Bound.{Bound}
 use Rattle.bolt_repair.specs.declared.bound.Bound.TheVariants.{Any, Nothing, UpTo}
-
-max_assoc : (n m k : ℕ) → max (max n m) k ≡ max n (max m k)
-max_assoc n m k = omega arith
-
-pub greater_assoc : (a b c : Bound) → greater (greater a b) c ≡ greater a (greater b c)
-greater_assoc Nothing b c = refl
-greater_assoc (UpTo n) Nothing c = refl
-greater_assoc (UpTo n) (UpTo m) Nothing = refl
-greater_assoc (UpTo n) (UpTo m) (UpTo k) = ap UpTo (max_assoc n m k)
-greater_assoc (UpTo n) (UpTo m) Any = refl
-greater_assoc (UpTo n) Any c = refl
-greater_assoc Any b c = refl
-
-pub greater_nothing : (a : Bound) → greater a Nothing ≡ a
-greater_nothing Nothing = refl
-greater_nothing (UpTo n) = refl
-greater_nothing Any = refl
 
 within_left : (a b : Bound) (main : ℕ) → IsWithinBound a main → IsWithinBound (greater a b) main
 within_left Nothing b main is = absurd is
@@ -143,23 +126,23 @@ module _ (spelled : AreSpelled) (ordered : AreOrdered) where
   within_lost (everything x) key k bytes also is loses = tt
   within_lost (parts losses) key k bytes also is (loss, has, takes) = within_losses losses loss key k bytes (also loss has) is has takes
 
-  within_other : (other : OtherView) (key : Key) (k : RevisionKey) → revision_key key ≡ Some k → MayHide other key
+  within_other : (other : UnreadView) (key : Key) (k : RevisionKey) → revision_key key ≡ Some k → MayHide other key
       → IsWithinBound (bound_of_other other) k.main
   within_other (Other_key other) key k is hides = tt
   within_other (No_record l) key k is hides =
       let same : k ≡ l = (let both : Some k ≡ Some l = sym is ∙ hides in cc) in subst (λ (m : RevisionKey). k.main ≤ m.main) same (omega arith)
 
-  within_others : (others : List OtherView) (other : OtherView) (key : Key) (k : RevisionKey) → revision_key key ≡ Some k → Contains others other
+  within_others : (others : List UnreadView) (other : UnreadView) (key : Key) (k : RevisionKey) → revision_key key ≡ Some k → Contains others other
       → MayHide other key → IsWithinBound (bound_of_others others) k.main
   within_others [] other key k is has hides = absurd (contains_none other has)
   within_others (x ∷ others) other key k is has hides = elim (contains_cases x other others has) [
     | inl same ↦
         within_left (bound_of_other x) (bound_of_others others) k.main
-        (subst (λ (o : OtherView). IsWithinBound (bound_of_other o) k.main) (sym same) (within_other other key k is hides))
+        (subst (λ (o : UnreadView). IsWithinBound (bound_of_other o) k.main) (sym same) (within_other other key k is hides))
     | inr later ↦ within_right (bound_of_other x) (bound_of_others others) k.main (within_others others other key k is later hides)
   ]
 
-  within_bound : (lost : LostView) (others : List OtherView) (is_older : Bool) (key : Key) (k : RevisionKey) → IsBytes key → HaveByteBounds lost
+  within_bound : (lost : LostView) (others : List UnreadView) (is_older : Bool) (key : Key) (k : RevisionKey) → IsBytes key → HaveByteBounds lost
       → revision_key key ≡ Some k
       → IsReported lost others is_older key → IsWithinBound (repair_bound lost others is_older) k.main
   within_bound lost others true key k bytes also is reported = tt
@@ -194,21 +177,3 @@ module _ (spelled : AreSpelled) (ordered : AreOrdered) where
             absurd (above (within_less (repair_bound lost (unread recovered) is_older) last.key.main r.key.main (omega (arith, later)) within))
         | inr not_later ↦ omega (arith, not_later)
       ]
-
--- ---- a loop over them
-
-pub one_more : {A B : Type 0} (bound_of : B → Bound) (all_of : List B → Bound) (view : A → B)
-    (step : (b : B) (bs : List B) → all_of (b ∷ bs) ≡ greater (bound_of b) (all_of bs))
-    (bound new : Bound) (xs : List A) (i : ℕ) (x : A) → i < length xs → x ≡ get_or xs i x → new ≡ greater bound (bound_of (view x))
-    → greater bound (all_of (map view (drop i xs))) ≡ all_of (map view xs)
-    → greater new (all_of (map view (drop (i + 1) xs))) ≡ all_of (map view xs)
-one_more {A} {B} bound_of all_of view step bound new xs i x lt at is so_far =
-    let rest = map view (drop (i + 1) xs) in
-    let next : suc i ≡ i + 1 = omega arith in
-    let here : drop i xs ≡ x ∷ drop (i + 1) xs =
-    drop-cons xs i x lt ∙ ap (λ (n : ℕ). get_or xs i x ∷ drop n xs) next ∙ ap (λ (y : A). y ∷ drop (i + 1) xs) (sym at) in
-    ap (λ (b : Bound). greater b (all_of rest)) is
-    ∙ greater_assoc bound (bound_of (view x)) (all_of rest)
-    ∙ ap (greater bound) (sym (step (view x) rest))
-    ∙ ap (λ (ys : List A). greater bound (all_of (map view ys))) (sym here)
-    ∙ so_far

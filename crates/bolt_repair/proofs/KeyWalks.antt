@@ -1,5 +1,5 @@
 -- Candidates by rising key, beside one key.
-use Rattle.std.proofs.Common.{◌≡◌, ◌∙◌, ◌<◌, ◌≤◌, ◌+◌, ◌-◌, ◌↔◌, inl, inr, ℕ, Bool, true, false, List, length, map, slice_index_or, refl, sym, ap}
+use Rattle.std.proofs.Common.{◌≡◌, ◌∙◌, ◌<◌, ◌≤◌, ◌-◌, ◌↔◌, inl, inr, ℕ, Bool, true, false, List, length, map, slice_index_or, refl, sym, ap}
 use Rattle.std.proofs.Common.{subst, arith}
 use Rattle.std.proofs.{lemmas.List.MinMax.ranks_by, lemmas.List.Sorted.sorted_far}
 use Rattle.std.proofs.lemmas.List.{get_or_default}
@@ -43,10 +43,6 @@ module _ (key : Key) (xs : List Revision) (rises : Rises whole_cmp (map entry_of
         at_most (slice_index_or xs k d).key.now (slice_index_or xs (n - 1) d).key.now key _ refl (not_above k (n - 1) d (omega arith) (omega arith))
         (subst (λ (x : Revision). key_cmp x.key.now key ≡ Less) (at ∙ last) before),
   )
-
-  pub one_more : (i : ℕ) (r : Revision) → HaveLesserKeys key xs i → i < length xs → r ≡ slice_index_or xs i r → is_lt (key_cmp r.key.now key) ≡ true
-      → HaveLesserKeys key xs (i + 1)
-  one_more i r below lt at less = below_all (i + 1) r (omega arith) (omega arith) (let same : i + 1 - 1 ≡ i = omega arith in rw same at) less
 
   -- none has the key, if all are below
   pub past_all : (i : ℕ) → HaveLesserKeys key xs i → length xs ≤ i → HasKey (map entry_of xs) key → ⊥

@@ -1,6 +1,5 @@
 pub mod Alones
 pub mod BoundLemmas
-pub mod CandidateLemmas
 pub mod FoundRepairs
 pub mod KeySearches
 pub mod KeyWalks

@@ -5,7 +5,7 @@ use Rattle.std.proofs.{lemmas.List.Sorted.IsPermutation-sym, lemmas.List.Element
 use Rattle.std.specs.{List.All, List.Contains, List.cons_option, List.filter_map, List.Sorted.IsPermutation}
 use Rattle.bolt_lemmas.proofs.Exports.{filter_all, filter_mapped, shows_from}
 use Rattle.bolt_check.specs.Keys.{Key}
-use Rattle.bolt_etcd.specs.{Store.Current.AreNewest, Store.Current.HaveOwnKeys, Store.Current.IsNewest, Store.Newest.is_until}
+use Rattle.bolt_etcd.specs.{Store.Current.AreCurrentBySum, Store.Current.HaveOwnKeys, Store.Current.IsCurrentAmong, Store.Newest.is_until}
 use Rattle.bolt_repair.specs.Candidates.{among}
 use Rattle.bolt_etcd.specs.{Store.Newest.until, Wire.Revisions.RevisionView, Wire.Revisions.revision_of}
 use Rattle.bolt_etcd.specs.{Wire.ShownRevisions.entry_of, Wire.ShownRevisions.shown_revision, declared.wire.revision.Revision.Revision}
@@ -56,7 +56,7 @@ all_go_back compacted newest agreed none = sym (filter_all (goes_back compacted 
 
 module _ (compacted : ℕ) (kept agreed all old found sorted : List Revision) (joined : all ≡ kept ++ agreed)
     (those : old ≡ filter (λ (r : Revision). is_until compacted (shown_revision r)) all)
-    (newest : HaveOwnKeys (map shown_revision old) → AreNewest (map shown_revision old) (map shown_revision found)) (moved : IsPermutation found sorted) where
+    (newest : HaveOwnKeys (map shown_revision old) → AreCurrentBySum (map shown_revision old) (map shown_revision found)) (moved : IsPermutation found sorted) where
   abbrev olds : List RevisionView
   olds = old_revisions compacted (map shown_revision kept) (map entry_of agreed)
 
@@ -70,8 +70,8 @@ module _ (compacted : ℕ) (kept agreed all old found sorted : List Revision) (j
   are_the_newest own r =
       let are = newest (subst HaveOwnKeys (sym shown_old) own) in
       let same = IsPermutation-map shown_revision found sorted moved in (
-        λ has. subst (λ (rs : List RevisionView). IsNewest rs r) shown_old
+        λ has. subst (λ (rs : List RevisionView). IsCurrentAmong rs r) shown_old
             ((are.exact r).0 (Contains-permutation (map shown_revision sorted) (map shown_revision found) r (IsPermutation-sym _ _ same) has)),
         λ n. Contains-permutation (map shown_revision found) (map shown_revision sorted) r same
-            ((are.exact r).1 (subst (λ (rs : List RevisionView). IsNewest rs r) (sym shown_old) n)),
+            ((are.exact r).1 (subst (λ (rs : List RevisionView). IsCurrentAmong rs r) (sym shown_old) n)),
       )

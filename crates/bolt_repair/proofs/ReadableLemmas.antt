@@ -6,7 +6,7 @@ use Rattle.std.specs.{List.Contains, List.cons_option, Borrow.Bor, Option.option
 use Rattle.bolt_lemmas.proofs.Exports.{kept_from}
 use Rattle.bolt_check.specs.Keys.{Key}
 use Rattle.bolt_tree.specs.{Entries.EntryView, Entries.Item, Listing.Member, Paths.Path, ShownEntries.item_view}
-use Rattle.bolt_etcd.specs.{Wire.Others.OtherView, Wire.Others.shown_other, Wire.ShownRevisions.shown_revision}
+use Rattle.bolt_etcd.specs.{Wire.UnreadEntries.UnreadView, Wire.UnreadEntries.shown_unread, Wire.ShownRevisions.shown_revision}
 use Rattle.bolt_repair.specs.{Readable.is_readable, Readable.readable, Readable.unread, Readable.unread_at, Repairs.HasMeta, Repairs.meta_path}
 use Rattle.bolt_repair.specs.RecoveredStores.{ComesAfter, IsRecoveredStore, IsStoreNoted}
 use Rattle.bolt_repair.specs.declared.recovered_store.RecoveredStore.{RecoveredStore}
@@ -32,9 +32,9 @@ module _ (before : List Member) (path : Path) (item : Item) where
   readable_less : is_readable path item ≡ false → readable more ≡ readable before
   readable_less is = readable_with false is ∙ append-nil (readable before)
 
-  unread_with : (o : Option OtherView) → unread_at path item ≡ o → unread more ≡ unread before ++ cons_option o []
+  unread_with : (o : Option UnreadView) → unread_at path item ≡ o → unread more ≡ unread before ++ cons_option o []
   unread_with o is =
-      filter_map-append (λ (m : Member). unread_at m.0 m.1) before ((path, item) ∷ []) ∙ ap (λ (p : Option OtherView). unread before ++ cons_option p []) is
+      filter_map-append (λ (m : Member). unread_at m.0 m.1) before ((path, item) ∷ []) ∙ ap (λ (p : Option UnreadView). unread before ++ cons_option p []) is
 
   unread_same : unread_at path item ≡ None → unread more ≡ unread before
   unread_same none = unread_with None none ∙ append-nil (unread before)
@@ -57,7 +57,7 @@ module _ (before : List Member) (path : Path) (item : Item) where
 
     -- a member that etcd can read
     pub noted_readable : is_readable path item ≡ true → unread_at path item ≡ None → (path ≡ meta_path → ⊥)
-        → map shown_other new.unread.items ≡ map shown_other old.unread.items → new.has_meta ≡ old.has_meta
+        → map shown_unread new.unread.items ≡ map shown_unread old.unread.items → new.has_meta ≡ old.has_meta
         → (NotesStore candidates (readable before) old → NotesStore candidates (readable before ++ (path, item) ∷ []) new) → IsStoreNoted more candidates new
     noted_readable is none elsewhere same same_meta step = record {
       store = subst (λ (ms : List Member). NotesStore candidates ms new) (sym (readable_more is)) (step s.store);
@@ -66,19 +66,19 @@ module _ (before : List Member) (path : Path) (item : Item) where
     }
 
     -- one that it can't read
-    pub noted_unread : (o : Option OtherView) → is_readable path item ≡ false → unread_at path item ≡ o → (path ≡ meta_path → ⊥)
-        → map shown_other new.unread.items ≡ map shown_other old.unread.items ++ cons_option o []
+    pub noted_unread : (o : Option UnreadView) → is_readable path item ≡ false → unread_at path item ≡ o → (path ≡ meta_path → ⊥)
+        → map shown_unread new.unread.items ≡ map shown_unread old.unread.items ++ cons_option o []
         → new.has_meta ≡ old.has_meta → (NotesStore candidates (readable before) old → NotesStore candidates (readable before) new)
         → IsStoreNoted more candidates new
     noted_unread o is this elsewhere more_of same_meta step = record {
       store = subst (λ (ms : List Member). NotesStore candidates ms new) (sym (readable_less is)) (step s.store);
-      unread = more_of ∙ ap (λ (os : List OtherView). os ++ cons_option o []) s.unread ∙ sym (unread_with o this);
+      unread = more_of ∙ ap (λ (os : List UnreadView). os ++ cons_option o []) s.unread ∙ sym (unread_with o this);
       meta = meta_same elsewhere same_meta;
     }
 
     -- the bucket `meta`, or what is in its place
     pub noted_meta : is_readable path item ≡ true → unread_at path item ≡ None → path ≡ meta_path
-        → map shown_other new.unread.items ≡ map shown_other old.unread.items → new.has_meta ≡ true
+        → map shown_unread new.unread.items ≡ map shown_unread old.unread.items → new.has_meta ≡ true
         → (NotesStore candidates (readable before) old → NotesStore candidates (readable before ++ (path, item) ∷ []) new) → IsStoreNoted more candidates new
     noted_meta is none at same there step = record {
       store = subst (λ (ms : List Member). NotesStore candidates ms new) (sym (readable_more is)) (step s.store);

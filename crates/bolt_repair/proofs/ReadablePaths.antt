@@ -1,7 +1,7 @@
 -- Which paths lead into the bucket of the revisions.
 use Rattle.std.proofs.Common.{◌≡◌, ◌∙◌, ◌⊎◌, ◌&&◌, ◌≤◌, inl, inr, ℕ, zero, suc, Bool, true, false, cond, List, [], ◌∷◌, ◌++◌, Option, Some, None, ap}
 use Rattle.std.proofs.Common.{append_assoc, arith, is_none, length, not, refl, subst, sym}
-use Rattle.std.proofs.{Math.Bool.and-false, lemmas.Bool.false_from_ne_true, lemmas.List.append-nil, lemmas.List.length-append}
+use Rattle.std.proofs.{Math.Bool.and-false, lemmas.List.append-nil, lemmas.List.length-append}
 use Rattle.std.proofs.{lemmas.List.same_from_push}
 use Rattle.std.specs.{Cmp.Lexicographic.same_text, List.Contains, Ordering.ordering_then, Str.bytes_eq, declared.cmp.Ordering.Ordering}
 use Rattle.std.specs.declared.cmp.Ordering.TheVariants.{Equal, Greater, Less}
@@ -10,7 +10,7 @@ use Rattle.bolt_check.specs.Keys.{Key, key_cmp}
 use Rattle.bolt_tree.proofs.Exports.{before_longer, key_exact, key_total}
 use Rattle.bolt_tree.specs.{Entries.Bucket, Entries.EntryView, Entries.Item, Listing.Member, Merges.HasBucket, Merges.HaveParents, Paths.Path}
 use Rattle.bolt_tree.specs.{Paths.path_cmp}
-use Rattle.bolt_etcd.specs.{Wire.Others.OtherView, Wire.Others.other_of, Wire.Revisions.RevisionView, Wire.Revisions.revision_of}
+use Rattle.bolt_etcd.specs.{Wire.UnreadEntries.UnreadView, Wire.UnreadEntries.other_of, Wire.Revisions.RevisionView, Wire.Revisions.revision_of}
 use Rattle.bolt_etcd.specs.Store.BucketNames.{key_bucket, meta_bucket}
 use Rattle.bolt_repair.specs.{Readable.is_in_inner_bucket, Readable.is_readable, Readable.unread_at, Readable.unread_in, Repairs.compaction_path}
 use Rattle.bolt_repair.specs.{Repairs.meta_path, Repairs.store_path, StorePaths.is_near}
@@ -33,7 +33,7 @@ not_unread (bucket ∷ key ∷ more ∷ path) item never = refl
 
 -- what is neither such an entry nor below one
 pub readable_if : (path : Path) (item : Item) → unread_at path item ≡ None → is_in_inner_bucket path ≡ false → is_readable path item ≡ true
-readable_if path item none above = ap (λ (o : Option OtherView). is_none o && not (is_in_inner_bucket path)) none ∙ ap not above
+readable_if path item none above = ap (λ (o : Option UnreadView). is_none o && not (is_in_inner_bucket path)) none ∙ ap not above
 
 pub unreadable_below : (path : Path) (item : Item) → is_in_inner_bucket path ≡ true → is_readable path item ≡ false
 unreadable_below path item below = ap (λ (b : Bool). is_none (unread_at path item) && not b) below ∙ and-false (is_none (unread_at path item))
@@ -94,22 +94,6 @@ near_after (bucket ∷ key ∷ more ∷ path) is = cc
 
 pub near_there : (path : Path) → path ≡ store_path → is_near path ≡ true
 near_there path at = ap is_near at
-
-pub near_entry : (path : Path) (key : Key) → path ≡ store_path ++ key ∷ [] → is_near path ≡ true
-near_entry path key at = ap is_near at
-
-pub not_near : (path : Path) → (path ≡ store_path → ⊥) → ((key : Key) → path ≡ store_path ++ key ∷ [] → ⊥) → is_near path ≡ false
-not_near [] no_bucket no_entry = refl
-not_near (bucket ∷ []) no_bucket no_entry = false_from_ne_true (bytes_eq bucket key_bucket) (λ is. no_bucket (ap (λ (k : Key). k ∷ []) (named bucket is)))
-not_near (bucket ∷ key ∷ []) no_bucket no_entry =
-    false_from_ne_true (bytes_eq bucket key_bucket) (λ is. no_entry key (ap (λ (k : Key). k ∷ key ∷ []) (named bucket is)))
-not_near (bucket ∷ key ∷ more ∷ path) no_bucket no_entry = refl
-
-pub not_near_below : (path : Path) → is_in_inner_bucket path ≡ true → is_near path ≡ false
-not_near_below [] below = refl
-not_near_below (bucket ∷ []) below = cc
-not_near_below (bucket ∷ key ∷ []) below = cc
-not_near_below (bucket ∷ key ∷ more ∷ path) below = refl
 
 -- ---- a bucket is there, if something is in it
 
@@ -188,11 +172,11 @@ readable_compaction path item at = (ap (λ (p : Path). is_readable p item) at, a
 
 pub readable_entry : (e : EntryView) → other_of e ≡ None
     → (is_readable (store_path ++ e.key ∷ []) e.item ≡ true) × (unread_at (store_path ++ e.key ∷ []) e.item ≡ None)
-readable_entry e none = (ap (λ (o : Option OtherView). is_none o && true) none, none)
+readable_entry e none = (ap (λ (o : Option UnreadView). is_none o && true) none, none)
 
-pub unread_entry : (e : EntryView) (o : OtherView) → other_of e ≡ Some o
+pub unread_entry : (e : EntryView) (o : UnreadView) → other_of e ≡ Some o
     → (is_readable (store_path ++ e.key ∷ []) e.item ≡ false) × (unread_at (store_path ++ e.key ∷ []) e.item ≡ Some o)
-unread_entry e o is = (ap (λ (p : Option OtherView). is_none p && true) is, is)
+unread_entry e o is = (ap (λ (p : Option UnreadView). is_none p && true) is, is)
 
 abbrev first_key : Path → Key
 first_key [] = []

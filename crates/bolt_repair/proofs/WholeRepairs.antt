@@ -14,7 +14,7 @@ use Rattle.bolt_recover.specs.{Found.AreSought, Recovered.IsRecovered}
 use Rattle.bolt_tree.proofs.Exports.{key_total}
 use Rattle.bolt_tree.specs.{Entries.Bucket, Entries.EntryView, Entries.Item, Entries.Value, Entries.entry_view, InBuckets.view_cmp, Listing.Member}
 use Rattle.bolt_tree.specs.Listing.{member_cmp}
-use Rattle.bolt_etcd.specs.{Store.Compacted.compacted_by, Store.Current.HaveOwnKeys, Store.Current.IsNewest}
+use Rattle.bolt_etcd.specs.{Store.Compacted.compacted_by, Store.Current.HaveOwnKeys, Store.Current.IsCurrentAmong}
 use Rattle.bolt_repair.specs.Candidates.{among, without}
 use Rattle.bolt_etcd.specs.{Store.Newest.is_until, Wire.Revisions.RevisionView, Wire.Revisions.revision_of}
 use Rattle.bolt_repair.specs.{Candidates.AreCandidates, Candidates.is_candidate, Candidates.is_in_place, FullRepairs.AreCandidateKeys}
@@ -164,7 +164,7 @@ module _ (recovered : List Member) (found : List LeafElement) (all : List EntryV
         -- ---- the newest of them
 
         module _ (r : RevisionView) (is : revision_of e ≡ Some r) where
-          newest_from : IsNewest old r → IsNewestUpTo compacted recovered found r
+          newest_from : IsCurrentAmong old r → IsNewestUpTo compacted recovered found r
           newest_from n = record {
             there = n.there;
             until = until_at compacted r (old_cases r n.has).1;
@@ -172,7 +172,7 @@ module _ (recovered : List Member) (found : List LeafElement) (all : List EntryV
             agreed = λ x other agrees names low. n.last other (old_from other (inr (x, agreed_to x other agrees, agrees.candidate.is_revision)) low) names;
           }
 
-          newest_to : IsNewestUpTo compacted recovered found r → IsNewest old r
+          newest_to : IsNewestUpTo compacted recovered found r → IsCurrentAmong old r
           newest_to n = record {
             has = old_from r (inr (e, has, is)) n.until;
             there = n.there;
@@ -206,7 +206,7 @@ module _ (recovered : List Member) (found : List LeafElement) (all : List EntryV
                     let (s, there, at) = shows_from (λ (x : RevisionView). x.stored_key) put.newest e.key (among_has stored_keys e.key one) in
                     let n = (put.are (own_keys e has) s).0 there in
                     let same = one_of_key e has e r s has read (old_cases s n.has).0 (at ∙ sym (stored_key_is e r read)) in
-                    inr (newest_from e has r read (subst (IsNewest old) same n))
+                    inr (newest_from e has r read (subst (IsCurrentAmong old) same n))
               ],
             )
 

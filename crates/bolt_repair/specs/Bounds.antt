@@ -5,7 +5,7 @@ use Rattle.bolt_check.specs.Keys.{Key, key_cmp}
 use Rattle.bolt_format.specs.Bytes.{IsBytes}
 use Rattle.bolt_tree.specs.{Entries.EntryView, InBuckets.entry_in, Listing.Member, Paths.Path}
 use Rattle.bolt_recover.specs.Losses.{LossView, LostView, everything, parts}
-use Rattle.bolt_etcd.specs.{Wire.Others.No_record, Wire.Others.OtherView, Wire.Others.Other_key, Wire.RevisionKeys.revision_key}
+use Rattle.bolt_etcd.specs.{Wire.UnreadEntries.No_record, Wire.UnreadEntries.UnreadView, Wire.UnreadEntries.Other_key, Wire.RevisionKeys.revision_key}
 use Rattle.bolt_etcd.specs.{Wire.Revisions.RevisionView, Wire.Revisions.name_of, Wire.Revisions.revision_of}
 use Rattle.bolt_etcd.specs.{declared.wire.revision_key.RevisionKey.RevisionKey}
 use Rattle.bolt_etcd.specs.Store.BucketNames.{key_bucket}
@@ -15,7 +15,7 @@ use Rattle.bolt_repair.specs.declared.bound.Bound.TheVariants.{Any, Nothing, UpT
 
 -- ---- what is reported
 
--- the greater of two
+-- the greater of two bounds
 abbrev pub greater : Bound → Bound → Bound
 greater Nothing bound = bound
 greater (UpTo n) Nothing = UpTo n
@@ -27,7 +27,7 @@ abbrev pub bound_of_key : Option RevisionKey → Bound
 bound_of_key None = Any
 bound_of_key (Some k) = UpTo k.main
 
--- of what is lost below a key of the bucket: its transaction, if it is a revision key
+-- the bound of what is lost below a key of the bucket `key`: the key's transaction, if it is a revision key
 abbrev pub bound_below : Option Key → Bound
 bound_below None = Any
 bound_below (Some key) = bound_of_key (revision_key key)
@@ -44,7 +44,7 @@ is_name_before (Some key) = is_lt (key_cmp key_bucket key)
 abbrev pub holds_store : (lower upper : Option Key) → Bool
 holds_store lower upper = is_name_from lower && is_name_before upper
 
--- of a page of the root bucket: any, if the bucket may have been on it
+-- the bound of a lost page of the root bucket: any, if the bucket `key` may have been on it
 abbrev pub bound_in : (lower upper : Option Key) → Bound
 bound_in lower upper = if holds_store lower upper then Any else Nothing
 
@@ -64,23 +64,23 @@ abbrev pub bound_of_lost : LostView → Bound
 bound_of_lost (everything x) = Any
 bound_of_lost (parts losses) = bound_of_losses losses
 
--- of an entry that isn't copied: its transaction, if it has the key of a revision
-abbrev pub bound_of_other : OtherView → Bound
+-- the bound of an entry that isn't copied: its transaction, if it has the key of a revision
+abbrev pub bound_of_other : UnreadView → Bound
 bound_of_other (Other_key key) = Any
 bound_of_other (No_record k) = UpTo k.main
 
-abbrev pub bound_of_others : List OtherView → Bound
+abbrev pub bound_of_others : List UnreadView → Bound
 bound_of_others [] = Nothing
 bound_of_others (other ∷ others) = greater (bound_of_other other) (bound_of_others others)
 
 -- Of all that is reported: the greatest; any, if the newest state may be lost.
-abbrev pub repair_bound : LostView → List OtherView → (is_older : Bool) → Bound
+abbrev pub repair_bound : LostView → List UnreadView → (is_older : Bool) → Bound
 repair_bound lost others true = Any
 repair_bound lost others false = greater (bound_of_lost lost) (bound_of_others others)
 
 -- ---- what it says
 
--- a transaction isn't above it
+-- a transaction isn't above a bound
 abbrev pub IsWithinBound : Bound → ℕ → Type 0
 IsWithinBound Nothing main = ⊥
 IsWithinBound (UpTo n) main = main ≤ n
@@ -106,13 +106,13 @@ MayLose (everything x) key = Unit {0}
 MayLose (parts losses) key = (loss : LossView) × Contains losses loss × MayTake loss key
 
 -- An entry that isn't copied may be what this key had: It has the key, or one that isn't that of a revision.
-abbrev pub MayHide : OtherView → Key → Type 0
+abbrev pub MayHide : UnreadView → Key → Type 0
 MayHide (Other_key other) key = Unit {0}
 MayHide (No_record k) key = revision_key key ≡ Some k
 
 -- something that is reported may have taken the entry under this key
-abbrev pub IsReported : LostView → List OtherView → (is_older : Bool) → Key → Type 0
-IsReported lost others is_older key = (is_older ≡ true) ⊎ (MayLose lost key ⊎ ((other : OtherView) × Contains others other × MayHide other key))
+abbrev pub IsReported : LostView → List UnreadView → (is_older : Bool) → Key → Type 0
+IsReported lost others is_older key = (is_older ≡ true) ⊎ (MayLose lost key ⊎ ((other : UnreadView) × Contains others other × MayHide other key))
 
 -- no revision of its name in the bucket is of a later transaction
 abbrev pub IsLastOfName : List Member → RevisionView → Type 0

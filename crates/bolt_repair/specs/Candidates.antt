@@ -14,11 +14,11 @@ abbrev pub is_in_place : Option RevisionView → Bool
 is_in_place None = false
 is_in_place (Some r) = not (is_misplaced r)
 
--- a revision with a record of its own transaction
+-- whether an entry is a revision with a record of its own transaction
 abbrev pub is_candidate : EntryView → Bool
 is_candidate e = is_in_place (revision_of e)
 
--- the entry, if it is one
+-- the entry, if it is a candidate
 abbrev pub candidate_at : EntryView → Option EntryView
 candidate_at e = if is_candidate e then Some e else None
 

@@ -21,7 +21,7 @@ pub record AreCandidateKeys (recovered : List Member) (found : List LeafElement)
 abbrev pub IsLeftOut : List Member → List LeafElement → List EntryView → ℕ → Type 0
 IsLeftOut recovered found back left_out = (keys : List Key) × AreCandidateKeys recovered found keys × (left_out + length back ≡ length keys)
 
--- no value is under the name of the bucket
+-- the recovered root bucket has no value under the name `key`
 abbrev pub LacksStoreValue : List Member → Type 0
 LacksStoreValue recovered = (value : List ℕ) → Contains recovered (store_path, Value value) → ⊥
 

@@ -3,27 +3,27 @@ use Rattle.std.specs.Prelude.{◌&&◌, Bool, false, List, [], ◌∷◌, Option
 use Rattle.std.specs.{List.filter_map, Str.bytes_eq}
 use Rattle.bolt_check.specs.Keys.{Key}
 use Rattle.bolt_tree.specs.{Entries.EntryView, Entries.Item, Listing.Member, Paths.Path}
-use Rattle.bolt_etcd.specs.Wire.Others.{OtherView, other_of}
+use Rattle.bolt_etcd.specs.Wire.UnreadEntries.{UnreadView, other_of}
 use Rattle.bolt_etcd.specs.Store.BucketNames.{key_bucket}
 
 -- what an entry of the bucket `key` is, if it is neither a revision nor a mark
-abbrev pub unread_in : Key → EntryView → Option OtherView
+abbrev pub unread_in : Key → EntryView → Option UnreadView
 unread_in bucket entry = if bytes_eq bucket key_bucket then other_of entry else None
 
-abbrev pub unread_at : Path → Item → Option OtherView
+abbrev pub unread_at : Path → Item → Option UnreadView
 unread_at [] item = None
 unread_at (bucket ∷ []) item = None
 unread_at (bucket ∷ key ∷ []) item = unread_in bucket (record { key = key; item = item })
 unread_at (bucket ∷ key ∷ more ∷ path) item = None
 
--- in a bucket in the bucket `key`
+-- whether a path is that of something in a bucket in the bucket `key`
 abbrev pub is_in_inner_bucket : Path → Bool
 is_in_inner_bucket [] = false
 is_in_inner_bucket (bucket ∷ []) = false
 is_in_inner_bucket (bucket ∷ key ∷ []) = false
 is_in_inner_bucket (bucket ∷ key ∷ more ∷ path) = bytes_eq bucket key_bucket
 
--- etcd can read a member: In the bucket `key` it is a revision or a mark
+-- whether etcd can read a member: in the bucket `key` it is a revision or a mark
 abbrev pub is_readable : Path → Item → Bool
 is_readable path item = is_none (unread_at path item) && not (is_in_inner_bucket path)
 
@@ -32,5 +32,5 @@ abbrev pub readable : List Member → List Member
 readable listing = filter (λ (m : Member). is_readable m.0 m.1) listing
 
 -- the entries of the bucket `key` that are neither revisions nor marks, in their order
-abbrev pub unread : List Member → List OtherView
+abbrev pub unread : List Member → List UnreadView
 unread listing = filter_map (λ (m : Member). unread_at m.0 m.1) listing

@@ -9,7 +9,7 @@ use Rattle.bolt_tree.specs.{Entries.EntryView, Entries.Item, Entries.Value, InBu
 use Rattle.bolt_tree.specs.{ShownEntries.item_view}
 use Rattle.bolt_repair.specs.{Candidates.HasKey, Readable.readable, Readable.unread, Repairs.HasMeta, Repairs.IsKeptRevision, Repairs.compaction_path}
 use Rattle.bolt_repair.specs.{Repairs.store_path}
-use Rattle.bolt_etcd.specs.{Wire.Revisions.RevisionView, Wire.Revisions.revision_of, Wire.Others.shown_other, Wire.ShownRevisions.shown_revision}
+use Rattle.bolt_etcd.specs.{Wire.Revisions.RevisionView, Wire.Revisions.revision_of, Wire.UnreadEntries.shown_unread, Wire.ShownRevisions.shown_revision}
 use Rattle.bolt_repair.specs.declared.recovered_store.RecoveredStore.{RecoveredStore}
 
 -- an entry of the recovered bucket has this key
@@ -31,7 +31,7 @@ pub record IsStoreNoted (members : List Member) (candidates : List EntryView) (n
   pub store : IsRecoveredStore (readable members) candidates (option_map item_view noted.bucket)
       (option_map (λ (value : Bor (List ℕ)). value.now) noted.compaction)
       (map shown_revision noted.kept.items) (map (λ (key : Bor (List ℕ)). key.now) noted.met.items)
-  pub unread : map shown_other noted.unread.items ≡ unread members
+  pub unread : map shown_unread noted.unread.items ≡ unread members
   pub meta : (noted.has_meta ≡ true) ↔ HasMeta members
 
 -- There is room for each member that is recovered of a damaged file, and for the candidates, if there are any.

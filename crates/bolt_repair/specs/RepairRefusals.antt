@@ -7,11 +7,11 @@ use Rattle.bolt_recover.specs.{Losses.LostView, Losses.everything, Losses.parts,
 use Rattle.bolt_repair.specs.{Repaired.IsRepair, Repaired.Made, Repairs.store_path, declared.repair_fault.RepairFault.RepairFault}
 use Rattle.bolt_repair.specs.declared.repair_fault.RepairFault.TheVariants.{Memory, NoBucket, NotABucket, Rootless}
 
--- nothing goes back
+-- nothing goes back into the bucket `key` of a file
 abbrev pub PutsNoneBack : List ℕ → Meta → (search : Bool) → Type 0
 PutsNoneBack file meta search = ∥ ((made : Made) × IsRepair file meta search [] made) ∥₁
 
--- nothing is under the name of the bucket
+-- the recovered root bucket has nothing under the name `key`
 abbrev pub LacksStore : List Member → Type 0
 LacksStore recovered = (item : Item) → Contains recovered (store_path, item) → ⊥
 

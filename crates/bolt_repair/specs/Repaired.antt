@@ -10,17 +10,17 @@ use Rattle.bolt_repair.specs.{Readable.readable, Repairs.AreBack, Repairs.HasMet
 abbrev pub elements_on : List ℕ → Meta → List ℕ → List LeafElement
 elements_on file meta found = flat_map (λ n. leaves_of (page_at file meta n)) found
 
--- Whether nothing is under the name of the bucket. A value there is no answer.
+-- Whether nothing is under the name `key`. If a value is there, the result is `None`.
 abbrev pub lacks_bucket : Option Item → Option Bool
 lacks_bucket None = Some true
 lacks_bucket (Some (Bucket sequence)) = Some false
 lacks_bucket (Some (Value value)) = None
 
--- the bucket is there
+-- the recovered root bucket has the bucket `key`
 abbrev pub HasStore : List Member → Type 0
 HasStore recovered = (sequence : ℕ) × Contains recovered (store_path, Bucket sequence)
 
--- Whether the bucket is made: if something goes back, and it isn't there.
+-- Whether the bucket `key` is made: if something goes back, and the bucket isn't there.
 abbrev pub MakesStore : List Member → List EntryView → Bool → Type 0
 MakesStore recovered [] true = ⊥
 MakesStore recovered [] false = Unit {0}

@@ -1,5 +1,5 @@
 -- What the members of the repaired listing show.
-use Rattle.std.specs.Prelude.{ℕ, Bool, List, length}
+use Rattle.std.specs.Prelude.{ℕ, Bool, List, length, ⊤}
 use Rattle.bolt_format.specs.declared.meta.Meta.{Meta}
 use Rattle.bolt_tree.specs.{Listing.Member, Merging.merged_left, Merging.merged_path, Merging.merged_work, Paths.Path}
 use Rattle.bolt_repair.specs.ReadableLeft.{readable_left, readable_path, readable_work}
@@ -9,10 +9,10 @@ use Rattle.bolt_repair.specs.{declared.repair.Repair.Repair, declared.repaired_l
 
 -- the file that is repaired, and the meta that it is read under
 abbrev pub repair_file : Repair → List ℕ
-repair_file repair = repair.both.now.file.now
+repair_file repair = repair.searched.now.file.now
 
 abbrev pub repair_meta : Repair → Meta
-repair_meta repair = repair.both.now.meta
+repair_meta repair = repair.searched.now.meta
 
 -- Whether pages are looked for though nothing is lost.
 abbrev pub repair_search : Repair → Bool
@@ -52,3 +52,8 @@ repaired_work repaired = merged_work (merged_work readable_work put_work) put_wo
 -- the path of the last member that it returned
 unfoldable pub repaired_path : RepairedListing → Path
 repaired_path repaired = merged_path (merged_path readable_path put_back_path) put_back_path repaired.members
+
+-- all that repaired members show, to be unfolded together
+unfoldable pub repaired_viewers : ⊤
+unfolding repaired_file repaired_left repaired_meta repaired_path repaired_search repaired_work
+repaired_viewers = tt

@@ -5,7 +5,7 @@ use Rattle.bolt_recover.specs.{Recovered.IsRecovered, TheRecovered.the_recovered
 use Rattle.bolt_repair.specs.{PutBackMembers.IsPutBack, Repaired.Made, Repairs.meta_path, Repairs.store_path, ReadableLeft.readable_file}
 use Rattle.bolt_repair.specs.{ReadableLeft.readable_meta}
 use Rattle.bolt_repair.specs.declared.{put_back.PutBack.PutBack, readable_members.ReadableMembers.ReadableMembers, repair.Repair.Repair}
-use Rattle.bolt_etcd.specs.{Wire.Others.OtherView, Wire.Others.shown_other, Wire.ShownRevisions.entry_of}
+use Rattle.bolt_etcd.specs.{Wire.UnreadEntries.UnreadView, Wire.UnreadEntries.shown_unread, Wire.ShownRevisions.entry_of}
 
 -- the entries that go back
 abbrev pub repair_back : Repair → List EntryView
@@ -16,13 +16,13 @@ abbrev pub repair_made : Repair → Made
 repair_made repair = record { store = repair.is_made; meta = repair.makes_meta }
 
 -- the entries that can't be read
-abbrev pub repair_unread : Repair → List OtherView
-repair_unread repair = map shown_other repair.unread.items
+abbrev pub repair_unread : Repair → List UnreadView
+repair_unread repair = map shown_unread repair.unread.items
 
 -- the recovered listing, that of what goes back, and that of the bucket `meta` if it is made
 abbrev pub all_listings : Repair → (List Member × List Member) × List Member
 all_listings repair = (
-  (the_recovered repair.both.now.file.now repair.both.now.meta, members_in repair.is_made store_path (repair_back repair)),
+  (the_recovered repair.searched.now.file.now repair.searched.now.meta, members_in repair.is_made store_path (repair_back repair)),
   members_in repair.makes_meta meta_path [],
 )
 

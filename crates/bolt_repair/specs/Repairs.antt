@@ -27,13 +27,13 @@ compaction_path = meta_bucket ∷ compaction_key ∷ []
 abbrev pub HasMeta : List Member → Type 0
 HasMeta recovered = (item : Item) × Contains recovered (meta_path, item)
 
--- The recovered listing says so of the transaction of the last compaction.
+-- By the recovered listing `n` is the transaction of the last compaction.
 abbrev pub IsCompactedAt : List Member → ℕ → Type 0
 IsCompactedAt recovered n =
     ((value : List ℕ) × Contains recovered (compaction_path, Value value) × (n ≡ compacted_by (Some value)))
     ⊎ (((value : List ℕ) → Contains recovered (compaction_path, Value value) → ⊥) × (n ≡ 0))
 
--- an entry of the recovered bucket, which is this revision
+-- the recovered bucket `key` has an entry that is this revision
 abbrev pub IsKeptRevision : List Member → RevisionView → Type 0
 IsKeptRevision recovered r = (e : EntryView) × Contains recovered (entry_in store_path e) × (revision_of e ≡ Some r)
 
@@ -46,7 +46,7 @@ pub record IsCandidate (recovered : List Member) (found : List LeafElement) (e :
   pub in_place : is_misplaced r ≡ false
   pub is_lost : (item : Item) → Contains recovered (entry_in store_path (record { key = e.key; item = item })) → ⊥
 
--- No other one has its key with another value.
+-- A candidate that isn't disputed: no other candidate has its key with another value.
 pub record IsAgreed (recovered : List Member) (found : List LeafElement) (e : EntryView) (r : RevisionView) : Type 0 where
   pub candidate : IsCandidate recovered found e r
   pub undisputed : (other : EntryView) (is : RevisionView) → IsCandidate recovered found other is → other.key ≡ e.key → other ≡ e
@@ -65,7 +65,7 @@ abbrev pub GoesBack : ℕ → List Member → List LeafElement → EntryView →
 GoesBack compacted recovered found e =
     (r : RevisionView) × IsAgreed recovered found e r × ((compacted < r.key.main) ⊎ IsNewestUpTo compacted recovered found r)
 
--- exactly what goes back, by rising key
+-- `back` has exactly the entries that go back, by rising key
 pub record AreBack (compacted : ℕ) (recovered : List Member) (found : List LeafElement) (back : List EntryView) : Type 0 where
   pub rises : Rises view_cmp back
   pub exact : (e : EntryView) → Contains back e ↔ GoesBack compacted recovered found e

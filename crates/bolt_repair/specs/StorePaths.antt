@@ -19,7 +19,7 @@ IsStorePath path Other =
     (path ≡ store_path → ⊥) × ((key : Key) → path ≡ store_path ++ key ∷ [] → ⊥) × (path ≡ compaction_path → ⊥) × (path ≡ meta_path → ⊥)
     × (is_in_inner_bucket path ≡ false)
 
--- the bucket, or an entry in it
+-- whether a path is that of the bucket `key`, or of an entry in it
 abbrev pub is_near : Path → Bool
 is_near [] = false
 is_near (bucket ∷ []) = bytes_eq bucket key_bucket

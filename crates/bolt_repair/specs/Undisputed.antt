@@ -6,13 +6,13 @@ use Rattle.bolt_check.specs.Keys.{Key, key_cmp}
 use Rattle.bolt_tree.specs.{Entries.EntryView, InBuckets.view_cmp}
 use Rattle.bolt_repair.specs.Candidates.{HasKey}
 
--- the first of these is the last that has its key
+-- the first of these entries is the last that has its key
 abbrev pub is_last_of_key : List EntryView → Bool
 is_last_of_key [] = true
 is_last_of_key (e ∷ []) = true
 is_last_of_key (e ∷ next ∷ es) = not (bytes_eq next.key e.key)
 
--- exactly those of which no other one has its key, by rising key
+-- `undisputed` has exactly the entries of `es` whose keys no other one has, by rising key
 pub record AreUndisputed (es undisputed : List EntryView) : Type 0 where
   pub rises : Rises view_cmp undisputed
   pub exact : (e : EntryView) → Contains undisputed e ↔ (Contains es e × ((other : EntryView) → Contains es other → other.key ≡ e.key → other ≡ e))

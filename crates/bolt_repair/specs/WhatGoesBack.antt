@@ -2,11 +2,11 @@
 use Rattle.std.specs.Prelude.{◌≡◌, ◌↔◌, ◌||◌, ◌++◌, ℕ, Bool, false, List, Option, Some, None, filter, map, not}
 use Rattle.std.specs.List.{Contains, filter_map}
 use Rattle.bolt_tree.specs.Entries.{EntryView}
-use Rattle.bolt_etcd.specs.{Store.Current.HaveOwnKeys, Store.Current.IsNewest, Store.Newest.is_until, Store.Newest.until}
+use Rattle.bolt_etcd.specs.{Store.Current.HaveOwnKeys, Store.Current.IsCurrentAmong, Store.Newest.is_until, Store.Newest.until}
 use Rattle.bolt_repair.specs.Candidates.{among}
 use Rattle.bolt_etcd.specs.{Wire.Revisions.RevisionView, Wire.Revisions.revision_of}
 
--- a compaction at this transaction may have removed it
+-- whether an entry is old: a revision that a compaction at this transaction may have removed
 abbrev pub is_old : ℕ → Option RevisionView → Bool
 is_old compacted None = false
 is_old compacted (Some r) = is_until compacted r
@@ -15,9 +15,9 @@ is_old compacted (Some r) = is_until compacted r
 abbrev pub old_revisions : ℕ → (kept : List RevisionView) → (agreed : List EntryView) → List RevisionView
 old_revisions compacted kept agreed = until compacted (kept ++ filter_map revision_of agreed)
 
--- exactly the newest of each name, if it isn't a deletion
+-- `newest` has exactly the newest revision of each name in `old`, if that isn't a deletion
 abbrev pub AreTheNewest : (old newest : List RevisionView) → Type 0
-AreTheNewest old newest = HaveOwnKeys old → (r : RevisionView) → Contains newest r ↔ IsNewest old r
+AreTheNewest old newest = HaveOwnKeys old → (r : RevisionView) → Contains newest r ↔ IsCurrentAmong old r
 
 -- an entry isn't old, or it is one of the newest revisions
 abbrev pub goes_back : ℕ → (newest : List RevisionView) → EntryView → Bool

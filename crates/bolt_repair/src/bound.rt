@@ -1,12 +1,12 @@
 //! Up to which transaction the copy of a repair may lack revisions.
 ghost use Rattle.std.specs.Prelude.{◌≡◌, map};
 ghost use Rattle.std.specs.Option.{option_map};
-ghost use Rattle.bolt_etcd.specs.Wire.Others.{shown_other};
+ghost use Rattle.bolt_etcd.specs.Wire.UnreadEntries.{shown_unread};
 ghost use Rattle.bolt_recover.specs.ShownLosses.{loss_view, lost_view};
 ghost use Rattle.bolt_repair.specs.Bounds.{bound_below, bound_in, bound_of_loss, bound_of_losses, bound_of_lost, bound_of_other, bound_of_others};
 ghost use Rattle.bolt_repair.specs.Bounds.{greater, holds_store, repair_bound};
 
-use bolt_etcd::{KEY_BUCKET, Other, RevisionKey};
+use bolt_etcd::{KEY_BUCKET, RevisionKey, UnreadEntry};
 use bolt_recover::{Loss, Lost};
 
 /// Which revisions the copy may lack (docs/RECOVERY.md, "What may be missing").
@@ -22,8 +22,8 @@ pub enum Bound {
 
 impl Bound {
     /// The bound of what is lost, of the entries that aren't copied, and of a newest state that may be lost.
-    pub fn of(lost: Lost<'_>, unread: &[Other<'_>], is_older: bool) -> Bound
-        ensures { result ≡ repair_bound (lost_view lost.entry) (map shown_other unread.now) is_older }
+    pub fn of(lost: Lost<'_>, unread: &[UnreadEntry<'_>], is_older: bool) -> Bound
+        ensures { result ≡ repair_bound (lost_view lost.entry) (map shown_unread unread.now) is_older }
     {
         if is_older {
             return Bound::Any;
@@ -116,8 +116,8 @@ fn below(upper: Option<&[u8]>) -> Bound
     }
 }
 
-fn of_others(unread: &[Other<'_>]) -> Bound
-    ensures { result ≡ bound_of_others (map shown_other unread.now) }
+fn of_others(unread: &[UnreadEntry<'_>]) -> Bound
+    ensures { result ≡ bound_of_others (map shown_unread unread.now) }
 {
     let mut bound = Bound::Nothing;
     'rest: for other in unread {
@@ -127,11 +127,11 @@ fn of_others(unread: &[Other<'_>]) -> Bound
 }
 
 /// The bound of an entry that isn't copied.
-fn of_other(other: &Other<'_>) -> Bound
-    ensures { result ≡ bound_of_other (shown_other other.now) }
+fn of_other(other: &UnreadEntry<'_>) -> Bound
+    ensures { result ≡ bound_of_other (shown_unread other.now) }
 {
     match other {
-        Other::Key(_) => Bound::Any,
-        Other::Record(key) => Bound::UpTo(key.main),
+        UnreadEntry::Key(_) => Bound::Any,
+        UnreadEntry::Record(key) => Bound::UpTo(key.main),
     }
 }

@@ -1,6 +1,6 @@
 //! Values on found pages that may go back.
-ghost use Rattle.std.specs.Prelude.{◌≡◌, ◌++◌, ◌∷◌, ◌↔◌, [], IfOk, IsTrue, OnOk, length, map, true};
-ghost use Rattle.std.specs.{Option.option_map, Ordering.is_lt, List.Contains, List.Sorted.IsSorted};
+ghost use Rattle.std.specs.Prelude.{◌≡◌, ◌++◌, ◌↔◌, IfOk, IsTrue, OnOk, length, map, true};
+ghost use Rattle.std.specs.{Option.option_map, Ordering.is_lt};
 ghost use Rattle.bolt_format.specs.{ElementPlaces.leaf_view, Elements.IsBucketValue, ElementsLeft.leaves_left};
 ghost use Rattle.bolt_check.specs.{Counts.counted, Keys.key_cmp};
 ghost use Rattle.bolt_lemmas.specs.Order.{Rises};
@@ -107,24 +107,6 @@ fn is_same(a: &Revision<'_>, b: &Revision<'_>) -> bool
     ensures { result ≡ is_same_entry (entry_of a.now) (entry_of b.now) }
 {
     a.stored_key() == b.stored_key() && a.value() == b.value()
-}
-
-/// Adds a key.
-pub(crate) fn add_key<'a>(keys: &mut Vec<&'a [u8]>, key: &'a [u8]) -> Result<(), NoMemory>
-    ensures { OnOk result (keys.new.items ≡ keys.old.items ++ key.entry ∷ []) }
-{
-    match keys.push(key) {
-        Ok(()) => Ok(()),
-        Err(_) => Err(NoMemory),
-    }
-}
-
-/// Whether a key is among these, which rise.
-pub(crate) fn has_key(keys: &[&[u8]], key: &[u8]) -> bool
-    requires { IsSorted key_cmp (map (λ key. key.now) keys.now) }
-    ensures { (result ≡ true) ↔ Contains (map (λ key. key.now) keys.now) key.now }
-{
-    keys.binary_search_by(|other| (*other).cmp(key)).is_ok()
 }
 
 /// Whether a candidate with this key is among these, by rising key. Looks on from the place where the

@@ -34,14 +34,14 @@ impl<'a> ReadableMembers<'a> {
     /// # Errors
     ///
     /// `NoMemory` if memory runs out.
-    pub fn of(alloc: Global, both: &LostAndFound<'a>) -> Result<ReadableMembers<'a>, NoMemory>
-        ensures file { IfOk result (λ members. readable_file members ≡ both.now.file.now) }
-        ensures meta { IfOk result (λ members. readable_meta members ≡ both.now.meta) }
-        ensures all { IfOk result (λ members. ForRecovered both.now.file.now both.now.meta (λ listing.
+    pub fn of(alloc: Global, searched: &LostAndFound<'a>) -> Result<ReadableMembers<'a>, NoMemory>
+        ensures file { IfOk result (λ members. readable_file members ≡ searched.now.file.now) }
+        ensures meta { IfOk result (λ members. readable_meta members ≡ searched.now.meta) }
+        ensures all { IfOk result (λ members. ForRecovered searched.now.file.now searched.now.meta (λ listing.
             readable_left members listing ≡ strip false listing)) }
         ensures path { IfOk result (λ members. readable_path members ≡ []) }
     {
-        let kept = RecoveredListing::of(alloc, both)?;
+        let kept = RecoveredListing::of(alloc, searched)?;
         Ok(ReadableMembers {
             kept,
             near: None,

@@ -6,9 +6,9 @@ ghost use Rattle.bolt_recover.specs.Recovered.{ForRecovered};
 ghost use Rattle.bolt_repair.specs.{Candidates.whole_cmp, RecoveredStores.HasRoomForRecovered, RecoveredStores.KeepsRevision, Repairs.store_path};
 ghost use Rattle.bolt_etcd.specs.{Wire.ShownRevisions.entry_of, Wire.ShownRevisions.shown_revision};
 
-use crate::candidates::{add_key, has_candidate};
+use crate::candidates::has_candidate;
 use crate::store_path::{StorePath, store_path_of};
-use bolt_etcd::{Other, Revision};
+use bolt_etcd::{Revision, UnreadEntry};
 use bolt_recover::{LostAndFound, RecoveredListing};
 use bolt_tree::{Entry, Item, Members, NoMemory};
 use std::alloc::{AllocError, Global};
@@ -25,7 +25,7 @@ pub(crate) struct RecoveredStore<'a> {
     /// The keys in the bucket `key` that candidates have too, by rising key.
     pub met: Vec<&'a [u8]>,
     /// The entries of the bucket `key` that are neither revisions nor marks, by rising key.
-    pub unread: Vec<Other<'a>>,
+    pub unread: Vec<UnreadEntry<'a>>,
     /// Whether something is under `meta` in the root bucket.
     pub has_meta: bool,
     /// Where the last key was looked up among the candidates.
@@ -38,15 +38,15 @@ impl<'a> RecoveredStore<'a> {
     /// Goes over all that is recovered of a file.
     pub fn of(
         alloc: Global,
-        both: &LostAndFound<'a>,
+        searched: &LostAndFound<'a>,
         candidates: &[Revision<'a>],
     ) -> Result<RecoveredStore<'a>, NoMemory>
         requires { Rises whole_cmp (map entry_of candidates.now) }
         ensures { IfOk result (λ store.
-            ForRecovered both.now.file.now both.now.meta (λ recovered.
+            ForRecovered searched.now.file.now searched.now.meta (λ recovered.
             IsStoreNoted recovered (map entry_of candidates.now) store)) }
     {
-        let room = room_for_kept(alloc, both, candidates)?;
+        let room = room_for_kept(alloc, searched, candidates)?;
         let mut store = RecoveredStore {
             bucket: None,
             compaction: None,
@@ -56,7 +56,7 @@ impl<'a> RecoveredStore<'a> {
             has_meta: false,
             at: 0,
         };
-        let mut kept = RecoveredListing::of(alloc, both)?;
+        let mut kept = RecoveredListing::of(alloc, searched)?;
         'members: while let Some(item) = kept.next()? {
             store.note(kept.path(), item, candidates)?;
         }
@@ -94,7 +94,7 @@ impl<'a> RecoveredStore<'a> {
         ensures { OnOk result (NotesMember (map entry_of candidates.now)
             (entry_in store_path (shown_entry entry.now)) self.old self.new) }
     {
-        if let Some(other) = Other::of(entry) {
+        if let Some(other) = UnreadEntry::of(entry) {
             return add_other(&mut self.unread, other);
         }
         keep_revision(&mut self.kept, candidates, entry)?;
@@ -109,17 +109,17 @@ impl<'a> RecoveredStore<'a> {
 /// are any. So the list never grows: while it did, it would need up to three times as much.
 fn room_for_kept<'a>(
     alloc: Global,
-    both: &LostAndFound<'a>,
+    searched: &LostAndFound<'a>,
     candidates: &[Revision<'a>],
 ) -> Result<Vec<Revision<'a>>, NoMemory>
     ensures items { IfOk result (λ room. room.items ≡ []) }
     ensures room { IfOk result (λ room.
-        HasRoomForRecovered both.now (length candidates.now) (vec_capacity room)) }
+        HasRoomForRecovered searched.now (length candidates.now) (vec_capacity room)) }
 {
     if candidates.is_empty() {
         return Ok(Vec::new(alloc));
     }
-    let recovered = both.recovered().unwrap_or(0);
+    let recovered = searched.recovered().unwrap_or(0);
     let room = usize::try_from(recovered).unwrap_or(usize::MAX);
     Ok(Vec::with_capacity(alloc, room.saturating_add(candidates.len()))?)
 }
@@ -143,10 +143,20 @@ fn keep_revision<'a>(
 }
 
 /// Adds an entry that is neither a revision nor a mark.
-fn add_other<'a>(others: &mut Vec<Other<'a>>, other: Other<'a>) -> Result<(), NoMemory>
+fn add_other<'a>(others: &mut Vec<UnreadEntry<'a>>, other: UnreadEntry<'a>) -> Result<(), NoMemory>
     ensures { OnOk result (others.new.items ≡ others.old.items ++ other.entry ∷ []) }
 {
     match others.push(other) {
+        Ok(()) => Ok(()),
+        Err(_) => Err(NoMemory),
+    }
+}
+
+/// Adds a key.
+fn add_key<'a>(keys: &mut Vec<&'a [u8]>, key: &'a [u8]) -> Result<(), NoMemory>
+    ensures { OnOk result (keys.new.items ≡ keys.old.items ++ key.entry ∷ []) }
+{
+    match keys.push(key) {
         Ok(()) => Ok(()),
         Err(_) => Err(NoMemory),
     }

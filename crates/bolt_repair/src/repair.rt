@@ -1,5 +1,5 @@
 //! What goes back into the bucket `key` of a damaged file, and the search for it.
-ghost use Rattle.std.specs.Prelude.{◌≡◌, ◌↔◌, [], All, IfErr, IfOk, OnOk, false, map, not, true};
+ghost use Rattle.std.specs.Prelude.{◌≡◌, ◌↔◌, [], All, IfErr, IfOk, None, OnOk, Some, false, map, not, true};
 ghost use Rattle.std.specs.{Bool.OnFalse, List.Contains, List.Sorted.IsSorted, Option.option_map};
 ghost use Rattle.bolt_check.specs.Keys.{key_cmp};
 ghost use Rattle.bolt_recover.specs.Recovered.{ForRecovered};
@@ -11,13 +11,14 @@ ghost use Rattle.bolt_tree.specs.ShownEntries.{item_view};
 ghost use Rattle.bolt_etcd.specs.{Store.Newest.is_until, Wire.ShownRevisions.entry_of};
 ghost use Rattle.bolt_repair.specs.Candidates.{among, without};
 ghost use Rattle.bolt_etcd.specs.{Wire.ShownRevisions.shown_revision};
+ghost use Rattle.bolt_repair.specs.declared.repair_fault.RepairFault.TheVariants.{NotABucket};
 
-use crate::candidates::{candidates_of, has_key};
+use crate::candidates::candidates_of;
 use crate::recovered_store::RecoveredStore;
 use crate::repair_fault::RepairFault;
 use crate::undisputed::keep_undisputed;
 use bolt_check::NoMemory;
-use bolt_etcd::{Other, Revision, compacted_by, keep_newest};
+use bolt_etcd::{Revision, UnreadEntry, compacted_by, keep_newest};
 use bolt_recover::LostAndFound;
 use bolt_recover::laws::a_loss_is_searched_for_in_any_case;
 use bolt_tree::Item;
@@ -27,7 +28,7 @@ use std::alloc::Global;
 /// listing").
 #[derive(Drop)]
 pub struct Repair<'a> {
-    pub(crate) both: &'a LostAndFound<'a>,
+    pub(crate) searched: &'a LostAndFound<'a>,
     /// Whether pages were looked for though nothing may be lost.
     pub(crate) search: bool,
     /// The revisions that go back, by rising key.
@@ -36,12 +37,12 @@ pub struct Repair<'a> {
     pub left_out: u64,
     /// The entries of the recovered bucket `key` that are neither revisions nor marks, by rising key. They
     /// aren't kept.
-    pub unread: Vec<Other<'a>>,
+    pub unread: Vec<UnreadEntry<'a>>,
     /// Whether the bucket is made for what goes back.
     pub(crate) is_made: bool,
     /// Whether the bucket `meta` is made.
     pub(crate) makes_meta: bool,
-    ghost goes_back: { ∥ IsRepair both.now.file.now both.now.meta search (map entry_of back.items)
+    ghost goes_back: { ∥ IsRepair searched.now.file.now searched.now.meta search (map entry_of back.items)
         (record { store = is_made; meta = makes_meta }) ∥₁ },
 }
 
@@ -60,11 +61,11 @@ impl<'a> Repair<'a> {
     /// out.
     pub fn find(
         alloc: Global,
-        both: &'a LostAndFound<'_>,
+        searched: &'a LostAndFound<'_>,
         search: bool,
     ) -> Result<Repair<'a>, RepairFault>
-        ensures file { IfOk result (λ repair. repair_file repair ≡ both.now.file.now) }
-        ensures meta { IfOk result (λ repair. repair_meta repair ≡ both.now.meta) }
+        ensures file { IfOk result (λ repair. repair_file repair ≡ searched.now.file.now) }
+        ensures meta { IfOk result (λ repair. repair_meta repair ≡ searched.now.meta) }
         ensures search { IfOk result (λ repair. repair_search repair ≡ search) }
         ensures back { IfOk result (λ repair. IsWholeRepair repair) }
         ensures store { IfOk result (λ repair. repair_back repair ≡ []
@@ -72,21 +73,19 @@ impl<'a> Repair<'a> {
         ensures unread { IfOk result (λ repair.
             ForRecovered (repair_file repair) (repair_meta repair) (λ recovered.
             repair_unread repair ≡ unread recovered)) }
-        ensures refused { IfErr result (IsRepairRefusal both.now.file.now both.now.meta search) }
+        ensures refused { IfErr result (IsRepairRefusal searched.now.file.now searched.now.meta search) }
     {
-        let mut back = find_candidates(alloc, both, search)?;
-        let store = RecoveredStore::of(alloc, both, back.as_slice())?;
-        let Some(is_lacking) = lacks_bucket(store.bucket) else {
-            return Err(RepairFault::NotABucket);
-        };
+        let mut back = find_candidates(alloc, searched, search)?;
+        let store = RecoveredStore::of(alloc, searched, back.as_slice())?;
+        let is_lacking = lacks_bucket(store.bucket)?;
         let compacted = compacted_by(store.compaction);
         let keys = keep_agreed(&mut back, store.met);
         keep_what_goes_back(store.kept, &mut back, compacted)?;
         if has_nothing(is_lacking, back.as_slice()) {
-            return Err(RepairFault::of(both.lost()));
+            return Err(RepairFault::of(searched.lost()));
         }
         Ok(Repair {
-            both,
+            searched,
             search,
             left_out: (keys - back.len()) as u64,
             unread: store.unread,
@@ -100,28 +99,31 @@ impl<'a> Repair<'a> {
 /// The candidates on the found pages. If nothing is lost, pages are looked for only if that is asked.
 fn find_candidates<'a>(
     alloc: Global,
-    both: &LostAndFound<'a>,
+    searched: &LostAndFound<'a>,
     search: bool,
 ) -> Result<Vec<Revision<'a>>, NoMemory>
     ensures { IfOk result (λ candidates.
-        AreSearched both.now search (map entry_of candidates.items)) }
+        AreSearched searched.now search (map entry_of candidates.items)) }
 {
     a_loss_is_searched_for_in_any_case();
-    if search && both.lost().is_nothing() {
-        let unreached = both.search_anyway(alloc)?;
+    if search && searched.lost().is_nothing() {
+        let unreached = searched.search_anyway(alloc)?;
         return candidates_of(alloc, unreached.as_slice());
     }
-    candidates_of(alloc, both.found.as_slice())
+    candidates_of(alloc, searched.found.as_slice())
 }
 
-/// Whether nothing is under the bucket's name. Returns `None` if a value is.
-fn lacks_bucket(under: Option<Item<'_>>) -> Option<bool>
-    ensures { result ≡ lacks_bucket (option_map item_view under.entry) }
+/// Whether nothing is under the bucket's name. Returns `NotABucket` if a value is.
+fn lacks_bucket(under: Option<Item<'_>>) -> Result<bool, RepairFault>
+    ensures lacks { IfOk result (λ lacks.
+        lacks_bucket (option_map item_view under.entry) ≡ Some lacks) }
+    ensures value { IfErr result (λ fault. (fault ≡ NotABucket)
+        × (lacks_bucket (option_map item_view under.entry) ≡ None)) }
 {
     match under {
-        None => Some(true),
-        Some(Item::Bucket { .. }) => Some(false),
-        Some(Item::Value(_)) => None,
+        None => Ok(true),
+        Some(Item::Bucket { .. }) => Ok(false),
+        Some(Item::Value(_)) => Err(RepairFault::NotABucket),
     }
 }
 
@@ -240,4 +242,12 @@ fn lacks_key(keys: &[&[u8]], revision: &Revision<'_>) -> bool
     ensures { result ≡ not (among (map (λ key. key.now) keys.now) (entry_of revision.now).key) }
 {
     !has_key(keys, revision.stored_key())
+}
+
+/// Whether a key is among these, which rise.
+fn has_key(keys: &[&[u8]], key: &[u8]) -> bool
+    requires { IsSorted key_cmp (map (λ key. key.now) keys.now) }
+    ensures { (result ≡ true) ↔ Contains (map (λ key. key.now) keys.now) key.now }
+{
+    keys.binary_search_by(|other| (*other).cmp(key)).is_ok()
 }

@@ -26,7 +26,7 @@ pub struct RepairedListing<'a> {
     ghost reads: { ∥ ReadsRepaired members repair.now ∥₁ },
 }
 
-#[tactic(auto, unfolding(crate::specs::RepairedMembers::repaired_file, crate::specs::RepairedMembers::repaired_left, crate::specs::RepairedMembers::repaired_meta, crate::specs::RepairedMembers::repaired_path, crate::specs::RepairedMembers::repaired_search))]
+#[tactic(auto, unfolding(crate::specs::RepairedMembers::repaired_viewers))]
 impl<'a> RepairedListing<'a> {
     ghost use Rattle.bolt_repair.specs.Repaired.{ForRepaired};
     ghost use Rattle.bolt_repair.specs.RepairedMembers.{repair_file, repair_meta, repair_search, repaired_file, repaired_left, repaired_meta};
@@ -50,7 +50,7 @@ impl<'a> RepairedListing<'a> {
         sought_pages_are_one();
         recovered_listing_is_of_a_tree();
         the_recovered_listing_is_recovered();
-        let kept = ReadableMembers::of(alloc, repair.both)?;
+        let kept = ReadableMembers::of(alloc, repair.searched)?;
         let back = PutBack::new(alloc, &[KEY_BUCKET], repair.is_made, repair.back.as_slice())?;
         let nothing: &'a [Revision<'a>] = &[];
         let meta = PutBack::new(alloc, &[META_BUCKET], repair.makes_meta, nothing)?;
@@ -61,7 +61,7 @@ impl<'a> RepairedListing<'a> {
     }
 }
 
-#[tactic(auto, unfolding(crate::specs::RepairedMembers::repaired_file, crate::specs::RepairedMembers::repaired_left, crate::specs::RepairedMembers::repaired_meta, crate::specs::RepairedMembers::repaired_path, crate::specs::RepairedMembers::repaired_search, crate::specs::RepairedMembers::repaired_work))]
+#[tactic(auto, unfolding(crate::specs::RepairedMembers::repaired_viewers))]
 impl<'a> Members<'a> for RepairedListing<'a> {
     ghost use Rattle.bolt_repair.specs.RepairedMembers.{repaired_file, repaired_left, repaired_meta, repaired_path, repaired_search, repaired_work};
 

@@ -3,7 +3,7 @@ ghost use Rattle.std.specs.Prelude.{◌≡◌, ◌≤◌, ◌∷◌, []};
 ghost use Rattle.bolt_tree.specs.{Paths.path_of, ShownEntries.item_view};
 ghost use Rattle.bolt_repair.specs.{Readable.is_readable, StorePaths.IsStorePath};
 
-use bolt_etcd::{COMPACTION_KEY, KEY_BUCKET, META_BUCKET, Other};
+use bolt_etcd::{COMPACTION_KEY, KEY_BUCKET, META_BUCKET, UnreadEntry};
 use bolt_tree::{Entry, Item};
 
 /// Where a path leads.
@@ -66,7 +66,7 @@ pub(crate) fn is_readable<'a>(path: &[&'a [u8]], item: Item<'a>) -> bool
     ensures { result ≡ is_readable (path_of path.now) (item_view item.entry) }
 {
     match store_path_of(path) {
-        StorePath::InStore(key) => Other::of(&Entry { key, item }).is_none(),
+        StorePath::InStore(key) => UnreadEntry::of(&Entry { key, item }).is_none(),
         StorePath::Below => false,
         _ => true,
     }

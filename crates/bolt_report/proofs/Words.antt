@@ -65,4 +65,4 @@ pub use Rattle.std.specs.Cmp.Lexicographic.{pointwise}
 pub use Rattle.std.specs.Int.{div_ceil}
 pub use Rattle.std.specs.List.{AllByRecursion, Contains, list_any, range_with_len, starts_with, take_while}
 pub use Rattle.std.specs.Prelude.{decimal}
-pub use Rattle.std.specs.Str.{bytes_eq, is_utf8}
+pub use Rattle.std.specs.Str.{bytes_eq}

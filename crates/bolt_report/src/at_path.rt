@@ -2,10 +2,11 @@
 ghost use Rattle.std.specs.Option.{IfNone};
 ghost use Rattle.std.specs.Prelude.{◌≡◌, IfOk, IfSome, List, OnOk, ℕ};
 ghost use Rattle.bolt_tree.specs.{Entries.Value, Listing.Member, Paths.path_of, ShownEntries.item_view};
-ghost use Rattle.bolt_report.specs.{AtPaths.HoldsNow, AtPaths.parents_of, MembersLeft.ForLeft};
+ghost use Rattle.bolt_report.specs.{AtPaths.HoldsNow, MembersLeft.ForLeft};
 
 use crate::part_lines::is_bucket_at;
 use bolt_check::NoMemory;
+use bolt_text::path_above;
 use bolt_tree::{Item, Members};
 
 /// What members hold at a path.
@@ -27,7 +28,7 @@ pub fn look_up<'a, M: Members<'a>>(members: &mut M, path: &[&[u8]]) -> Result<At
         ForLeft M.reads M.left members.old (λ left. HoldsNow left (path_of path.now) at)) }
     ensures end { OnOk result (M.ends_as members.old members.new) }
 {
-    let parents = parents_of(path);
+    let parents = path_above(path);
     let mut value = None;
     let mut has_bucket = parents.is_empty();
     'members: while let Some(item) = members.next()? {
@@ -35,13 +36,6 @@ pub fn look_up<'a, M: Members<'a>>(members: &mut M, path: &[&[u8]]) -> Result<At
         value = value_at(members.path(), &item, path).or(value);
     }
     Ok(AtPath { value, has_bucket })
-}
-
-/// All parts of a path but the last.
-fn parents_of<'p, 'a>(path: &'p [&'a [u8]]) -> &'p [&'a [u8]]
-    ensures { path_of result.now ≡ parents_of (path_of path.now) }
-{
-    &path[..path.len().saturating_sub(1)]
 }
 
 /// The value of a member, if it is one at this path.

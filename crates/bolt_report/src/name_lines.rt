@@ -32,7 +32,7 @@ pub struct NamesIn<'q> {
 
 /// Writes the names that are asked for of the members that are left, in a form, a line for each, in
 /// byte order. If it returns `Ok`, it has taken all members, and the result says whether what was
-/// left has the bucket. If it doesn't, the text is empty.
+/// left has the bucket. If the result is `false`, the text is empty.
 ///
 /// # Errors
 ///

@@ -6,6 +6,7 @@ ghost use Rattle.bolt_format.specs.TreePages.{branches_on, leaves_on};
 ghost use Rattle.bolt_format.specs.{ElementPlaces.branch_view, ElementPlaces.leaf_view, Elements.IsBucketValue};
 ghost use Rattle.bolt_report.specs.PageLines.{head_lines, page_head, item_lines, items_on, kind_text, page_lines, branch_line, bucket_end, id_line};
 ghost use Rattle.bolt_report.specs.PageLines.{leaf_line, read_ids};
+ghost use Rattle.bolt_format.specs.declared.header.Kind.TheVariants as kinds;
 ghost use Rattle.bolt_text.specs.ListLines.{value_end};
 ghost use Rattle.bolt_report.specs.PageTexts.{page_text, page_text_fault};
 ghost use Rattle.bolt_text.specs.ReportEndings.{report_ending};
@@ -22,6 +23,7 @@ use bolt_text::{Piece, ReportFault, put_pieces};
 struct PageWithIds<'a> {
     page: Page<'a>,
     ids: Option<FreeIds<'a>>,
+    ghost no_ids: { (shown page).kind ≡ kinds.Meta → ids ≡ None },
 }
 
 /// Writes what page `id` of a file shows under a meta (docs/COMMANDS.md, "page").
@@ -48,7 +50,7 @@ pub fn page_text<S: Sink>(
         → sink.new ≡ sink.old }
 {
     let found = find(file, meta, id)?;
-    put_page(id, &found.page, found.ids, sink)?;
+    found.put(id, sink)?;
     Ok(())
 }
 
@@ -58,7 +60,6 @@ fn find<'a>(file: &'a [u8], meta: &Meta, id: u64) -> Result<PageWithIds<'a>, Pag
     ensures page { IfOk result (λ found. page_at file.now meta.now id ≡ Some (shown found.page)) }
     ensures ids { IfOk result (λ found. (shown found.page).kind ≡ Kind.Freelist
         → read_ids found.ids ≡ free_ids_at file.now meta.now id) }
-    ensures no_ids { IfOk result (λ found. (shown found.page).kind ≡ Kind.Meta → found.ids ≡ None) }
     ensures fault { result_err result ≡ page_text_fault file.now meta.now id }
 {
     let page = page(file, meta, id)?;
@@ -74,53 +75,59 @@ fn find<'a>(file: &'a [u8], meta: &Meta, id: u64) -> Result<PageWithIds<'a>, Pag
     }
 }
 
-fn put_page<S: Sink>(
-    id: u64,
-    page: &Page<'_>,
-    ids: Option<FreeIds<'_>>,
-    sink: &mut S,
-) -> Result<(), SinkFault>
-    requires { (shown page.now).kind ≡ Kind.Meta → ids ≡ None }
-    ensures { Wrote S.Sink sink.old sink.new (page_lines id (shown page.now) (read_ids ids.entry))
-        (ending result) }
-{
-    put_page_head(id, page, &ids, sink)?;
-    put_items(page, ids, sink)
-}
+impl PageWithIds<'_> {
+    /// Writes the lines of page `id`.
+    fn put<S: Sink>(&self, id: u64, sink: &mut S) -> Result<(), SinkFault>
+        ensures { Wrote S.Sink sink.old sink.new
+            (page_lines id (shown self.now.page) (read_ids self.now.ids)) (ending result) }
+    {
+        self.put_head(id, sink)?;
+        self.put_items(sink)
+    }
 
-/// Writes the first four lines of a page.
-#[tactic(auto, unfolding(crate::specs::PageLines::head_lines))]
-fn put_page_head<S: Sink>(
-    id: u64,
-    page: &Page<'_>,
-    ids: &Option<FreeIds<'_>>,
-    sink: &mut S,
-) -> Result<(), SinkFault>
-    requires { (shown page.now).kind ≡ Kind.Meta → ids.now ≡ None }
-    ensures { Wrote S.Sink sink.old sink.new (page_head id (shown page.now) (read_ids ids.now))
-        (ending result) }
-{
-    put_pieces(
-        &[
-            Piece::Figure(b"page", id),
-            Piece::Bytes(b"type "),
-            Piece::Bytes(kind_name(page.kind())),
-            Piece::Bytes(b"\n"),
-            Piece::Figure(b"items", item_count(page, ids)),
-            Piece::Figure(b"overflow", u64::from(page.overflow())),
-        ],
-        sink,
-    )
-}
+    /// Writes the first four lines.
+    #[tactic(auto, unfolding(crate::specs::PageLines::head_lines))]
+    fn put_head<S: Sink>(&self, id: u64, sink: &mut S) -> Result<(), SinkFault>
+        ensures { Wrote S.Sink sink.old sink.new
+            (page_head id (shown self.now.page) (read_ids self.now.ids)) (ending result) }
+    {
+        put_pieces(
+            &[
+                Piece::Figure(b"page", id),
+                Piece::Bytes(b"type "),
+                Piece::Bytes(kind_name(self.page.kind())),
+                Piece::Bytes(b"\n"),
+                Piece::Figure(b"items", self.item_count()),
+                Piece::Figure(b"overflow", u64::from(self.page.overflow())),
+            ],
+            sink,
+        )
+    }
 
-fn item_count(page: &Page<'_>, ids: &Option<FreeIds<'_>>) -> u64
-    requires { (shown page.now).kind ≡ Kind.Meta → ids.now ≡ None }
-    ensures { result ≡ items_on (shown page.now).kind (shown page.now).count (read_ids ids.now) }
-{
-    match (page.tree_page(), ids) {
-        (Some(page), _) => u64::from(page.count()),
-        (None, Some(ids)) => ids.len() as u64,
-        (None, None) => 0,
+    /// The number of its elements or ids. A meta page has none.
+    fn item_count(&self) -> u64
+        ensures { result ≡ items_on (shown self.now.page).kind (shown self.now.page).count
+            (read_ids self.now.ids) }
+    {
+        match (self.page.tree_page(), &self.ids) {
+            (Some(page), _) => u64::from(page.count()),
+            (None, Some(ids)) => ids.len() as u64,
+            (None, None) => 0,
+        }
+    }
+
+    /// Writes a line for each of them.
+    fn put_items<S: Sink>(&self, sink: &mut S) -> Result<(), SinkFault>
+        ensures { Wrote S.Sink sink.old sink.new
+            (item_lines (shown self.now.page).kind (shown self.now.page) (read_ids self.now.ids))
+            (ending result) }
+    {
+        match (self.page.tree_page(), &self.ids) {
+            (Some(TreePage::Branch(page)), _) => put_branches(&page, sink),
+            (Some(TreePage::Leaf(page)), _) => put_leaves(&page, sink),
+            (None, Some(ids)) => put_ids(ids, sink),
+            (None, None) => Ok(()),
+        }
     }
 }
 
@@ -132,23 +139,6 @@ fn kind_name(kind: Kind) -> &'static [u8]
         Kind::Leaf => b"leaf",
         Kind::Meta => b"meta",
         Kind::Freelist => b"freelist",
-    }
-}
-
-fn put_items<S: Sink>(
-    page: &Page<'_>,
-    ids: Option<FreeIds<'_>>,
-    sink: &mut S,
-) -> Result<(), SinkFault>
-    requires { (shown page.now).kind ≡ Kind.Meta → ids ≡ None }
-    ensures { Wrote S.Sink sink.old sink.new
-        (item_lines (shown page.now).kind (shown page.now) (read_ids ids.entry)) (ending result) }
-{
-    match (page.tree_page(), ids) {
-        (Some(TreePage::Branch(page)), _) => put_branches(&page, sink),
-        (Some(TreePage::Leaf(page)), _) => put_leaves(&page, sink),
-        (None, Some(ids)) => put_ids(&ids, sink),
-        (None, None) => Ok(()),
     }
 }
 

@@ -65,8 +65,8 @@ pub fn put_list_part<S: Sink>(
 
 /// Writes a line in a form for each member that is left, begins with `below` and doesn't come before
 /// `from`, as `put_list_part` does, with its errors. If it returns `Ok`, it has taken all members, and the
-/// result says whether what was left has the bucket at `below`: always if `below` is empty. If it
-/// doesn't, the text is empty, even if there is a value at `below`.
+/// result says whether what was left has the bucket at `below`: always if `below` is empty. If the
+/// result is `false`, the text is empty, even if there is a value at `below`.
 pub fn put_member_part<'a, M: Members<'a>, S: Sink>(
     alloc: Global,
     members: &mut M,

@@ -1,13 +1,13 @@
 -- The words that the proofs of this crate cite, passed on from the modules that define them.
 pub use Rattle.bolt_lemmas.proofs.Exports.{has_right}
 pub use Rattle.bolt_lemmas.specs.Lists.{Has}
-pub use Rattle.bolt_check.proofs.Exports.{one_tour, enough_kids, enough_node, node_is, follow_append}
+pub use Rattle.bolt_check.proofs.Exports.{one_tour, enough_kids, enough_node, follow_append}
 pub use Rattle.bolt_check.specs.CheckedFiles.{bytes_of, meta_of}
 pub use Rattle.bolt_check.specs.Nodes.{Node, Nodes, leaf_entry, node_at}
 pub use Rattle.bolt_check.specs.Sound.{HasSoundTrees}
 pub use Rattle.bolt_check.specs.{Subtrees.Enough, Subtrees.kid_pages, Subtrees.weight}
 pub use Rattle.bolt_check.specs.Ways.{At_page, PageSpot, Spot, follow, reached, root_spot, step}
-pub use Rattle.bolt_format.proofs.Exports.{drop_next, flat_map-take_more}
+pub use Rattle.bolt_format.proofs.Exports.{drop_next}
 pub use Rattle.bolt_format.specs.ElementPlaces.{branch_view, leaf_view}
 pub use Rattle.bolt_format.specs.Elements.{BranchElement, LeafElement}
 unfoldable pub use Rattle.bolt_format.specs.Pages.{page_at}

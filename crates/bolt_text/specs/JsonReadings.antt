@@ -1,9 +1,10 @@
 -- What a reader of a JSON line finds in it: docs/COMMANDS.md, "What is printed".
 use Rattle.std.specs.Prelude.{ℕ, ◌<◌, ◌^◌, List, [], ◌∷◌, Option, Some, None, ⊤, codes, option_and_then, option_map, if◌then◌else◌}
-use Rattle.std.specs.{Result.result_ok, Str.bytes_eq, Str.Parse.digits_value}
-use Rattle.hex.specs.Hex.{IsBytes, decode_of}
+use Rattle.std.specs.{Str.bytes_eq, Str.Parse.digits_value}
+use Rattle.hex.specs.Hex.{IsBytes}
 use Rattle.json.specs.Json.{Items, Json, Members, array, item, member, no_items, no_members, number, object, string}
 use Rattle.bolt_tree.specs.{Entries.Bucket, Entries.Item, Entries.Value, Listing.Member, Paths.Path}
+use Rattle.bolt_text.specs.HexPaths.{hex_bytes_in}
 
 abbrev pub string_of : Json → Option (List ℕ)
 string_of (string s) = Some s
@@ -18,18 +19,14 @@ abbrev pub named : List ℕ → Members → Option Json
 named name no_members = None
 named name (member k j ms) = if bytes_eq k name then Some j else named name ms
 
--- the bytes of hexadecimal digits
-abbrev pub bytes_of_digits : List ℕ → Option (List ℕ)
-bytes_of_digits digits = result_ok (decode_of digits)
-
 -- a key or a value: a string of hexadecimal digits;
 abbrev pub digits_of : Json → Option (List ℕ)
-digits_of json = option_and_then bytes_of_digits (string_of json)
+digits_of json = option_and_then hex_bytes_in (string_of json)
 
 -- a key or a value that is a string, or an object whose `hex` has hexadecimal digits
 abbrev pub item_in_json : Json → Option (List ℕ)
 item_in_json (string s) = Some s
-item_in_json (object ms) = option_and_then bytes_of_digits (option_and_then string_of (named (codes "hex") ms))
+item_in_json (object ms) = option_and_then hex_bytes_in (option_and_then string_of (named (codes "hex") ms))
 item_in_json _ = None
 
 abbrev pub number_of : Json → Option ℕ

@@ -25,7 +25,7 @@ pub use item_writer::{ItemWriter, item, printable, value};
 pub use line_words::{ItemWord, LineWords, cut_at, first_line, words_of};
 pub use member_lines::MemberLines;
 pub use part_words::{Parts, read_number};
-pub use path_order::{is_before, is_below};
+pub use path_order::{is_before, is_below, path_above};
 pub use path_pieces::PathForm;
 pub use pieces::{Piece, put_pieces};
 pub use report_fault::ReportFault;

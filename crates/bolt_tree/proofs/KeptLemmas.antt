@@ -3,11 +3,12 @@ use Rattle.std.proofs.lemmas.Grind.{common_steps}
 use Rattle.std.proofs.Common.{◌≡◌, ◌∙◌, ◌≤◌, ◌-◌, ℕ, Bool, List, [], ◌∷◌, ◌++◌, Option, Some, None, drop, take, length, reverse, refl, sym, ap, subst}
 use Rattle.std.proofs.Common.{arith}
 use Rattle.bolt_tree.proofs.Words.{AreKept, AreCursorsOfFile, BucketView, Checked, Cursor, CursorView, Frame, HasStack, IsResting, IsInnermost}
-use Rattle.bolt_tree.proofs.Words.{IsKeptStack, Position, Trail, bucket_in, cursor_checked, cursor_place, cursor_start, cursor_trail, cursor_view}
+use Rattle.bolt_tree.proofs.Words.{IsKeptStack, Position, Trail, bucket_in, cursor_checked, cursor_trail, cursor_view}
 use Rattle.bolt_tree.proofs.Words.{drop-append_seam, frames_of, innermost_views, kept_view, kept_views, length-append, length-drop, pager_checked}
 use Rattle.bolt_tree.proofs.Words.{props, reverse-append, same_from_push, start_at, take-append_seam, take-length, ∥∥₁_elim, ∥∥₁_map}
 use Rattle.bolt_tree.proofs.{StackLemmas.stack_short, TrailLemmas.length-frames}
 use Rattle.bolt_tree.specs.{declared.at.At.At, declared.open_buckets.WaitingCursor.WaitingCursor}
+use Rattle.bolt_tree.specs.Cursors.{cursor_viewers}
 
 frames_short : (bucket : BucketView) (frames : List Frame) → HasStack bucket frames → length frames ≤ 64
 frames_short bucket [] stack = omega arith
@@ -55,7 +56,7 @@ module _ (checked : Checked) (waiting : List WaitingCursor) (w : WaitingCursor) 
 -- a cursor of the file shows what its positions show
 cursor_kept : (checked : Checked) (cursor : Cursor) → cursor_checked cursor ≡ checked
     → kept_view checked cursor.pages.at cursor.is_past cursor.stack.items ≡ cursor_view cursor
-unfolding cursor_checked cursor_place cursor_start
+unfolding cursor_viewers
 cursor_kept checked cursor file = ap (λ (c : Checked). kept_view c cursor.pages.at cursor.is_past cursor.stack.items) (sym file)
 
 pub file_of : (checked : Checked) (cursor : Cursor) → cursor_checked cursor ≡ checked → pager_checked cursor.pages.pager ≡ checked

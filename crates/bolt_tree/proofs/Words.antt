@@ -8,7 +8,7 @@ pub use Rattle.bolt_check.specs.{CheckedFiles.bytes_of, CheckedFiles.meta_of, Co
 pub use Rattle.bolt_check.specs.{Nodes.Entry, Nodes.Node, Nodes.Nodes, Nodes.branch_entry, Nodes.inline_page, Nodes.leaf_entry, Nodes.node_at}
 pub use Rattle.bolt_check.specs.{OnWays.IsOnWay, Shape.leads}
 pub use Rattle.bolt_check.specs.Sound.{HasSoundTrees}
-pub use Rattle.bolt_check.specs.Ways.{At_page, Before, PageSpot, Spot, bucket_spots, follow, reached, root_spot, step_at, step_entry}
+pub use Rattle.bolt_check.specs.Ways.{At_page, Before, PageSpot, Spot, bucket_spots, follow, reached, root_spot, step_at}
 pub use Rattle.bolt_check.specs.declared.checked.Checked.{Checked}
 pub use Rattle.bolt_format.proofs.Exports.{drop_at, one_some, take_next, below_mark, bucket_value, flat_inline}
 pub use Rattle.bolt_format.specs.ElementPlaces.{branch_view, leaf_view}
@@ -63,13 +63,13 @@ pub use Rattle.bolt_tree.specs.Tree.{trees_by_depth}
 pub use Rattle.bolt_tree.specs.{Tree.with_bucket, Tree.with_value, Walks.GivesNext, declared.bucket.Bucket.Bucket, declared.cursor.Cursor.Cursor}
 pub use Rattle.bolt_tree.specs.{Cursors.cursor_trail, declared.bucket_pages.BucketPages.BucketPages, declared.stack.Position.Position}
 unfoldable pub use Rattle.bolt_tree.specs.Buckets.{bucket_checked, bucket_start}
-unfoldable pub use Rattle.bolt_tree.specs.{Cursors.cursor_checked, Cursors.cursor_opened, Cursors.cursor_place, Cursors.cursor_start, FileTrees.file_tree}
+unfoldable pub use Rattle.bolt_tree.specs.{Cursors.cursor_checked, Cursors.cursor_place, Cursors.cursor_start, FileTrees.file_tree}
 unfoldable pub use Rattle.bolt_tree.specs.{Pagers.pager_checked, Pagers.pager_opened, Private.Contents.content_at, Private.Stacks.passed_of}
 unfoldable pub use Rattle.bolt_tree.specs.Walks.{walk_checked, walk_path}
 pub use Rattle.std.proofs.Math.Logic.{∥∥₁_elim, ∥∥₁_map, ∥∥₁_prop}
 pub use Rattle.std.proofs.Math.Seq.{drop-append_seam, take-append_seam, take-length, take-nil, take-suc-set}
 pub use Rattle.std.proofs.Props.{props}
-pub use Rattle.std.proofs.lemmas.Bool.{cases_Bool, cases_lt, false_from_ne_true, le-ltb, lt-ltb, not-false, not-true}
+pub use Rattle.std.proofs.lemmas.Bool.{cases_Bool, cases_lt, false_from_ne_true, not-false, not-true}
 pub use Rattle.std.proofs.lemmas.Bool.Decides.{nat_tests}
 pub use Rattle.std.proofs.lemmas.Cmp.{lists_total, nat_list_cmp_total, on_total, tied_itself}
 pub use Rattle.std.proofs.lemmas.List.{append_cancel_left, drop_all, get_or_default, length-append, length-drop, length-map, length-reverse}
@@ -83,7 +83,7 @@ pub use Rattle.std.proofs.lemmas.Option.{get_or_from_slice_get, none-some, same_
 pub use Rattle.std.proofs.lemmas.Option.{slice_get_within}
 pub use Rattle.std.proofs.lemmas.Slice.Eq.{bytes_eq-Decides, starts_is}
 pub use Rattle.std.specs.Cmp.{IsTotalOrder, both_ways}
-pub use Rattle.std.specs.List.{AllPairs, Contains, flat_map, range_with_len, refill, take_while}
+pub use Rattle.std.specs.List.{Contains, flat_map, range_with_len, refill, take_while}
 pub use Rattle.std.specs.Option.{is_none, option_map, option_to_list}
 pub use Rattle.std.specs.Ordering.{is_lt, ordering_reverse, ordering_then}
 pub use Rattle.std.specs.Prelude.{IfOk, IfSome, IsTrue, MatchOption, if◌then◌else◌}

@@ -1,5 +1,5 @@
 -- What a cursor shows: its file and bucket, where it is, and its counts; and what its calls do.
-use Rattle.std.specs.Prelude.{ℕ, List, Option}
+use Rattle.std.specs.Prelude.{ℕ, List, Option, ⊤}
 use Rattle.std.specs.Option.{option_map}
 use Rattle.bolt_format.specs.{ElementPlaces.leaf_view, Elements.LeafElement, declared.element.Leaf.Leaf}
 use Rattle.bolt_check.specs.{Keys.Key, declared.checked.Checked.Checked}
@@ -31,6 +31,11 @@ cursor_opened cursor = pager_opened cursor.pages.pager
 
 unfoldable pub cursor_compared : Cursor → ℕ
 cursor_compared cursor = cursor.compared
+
+-- all that a cursor shows, to be unfolded together
+unfoldable pub cursor_viewers : ⊤
+unfolding cursor_checked cursor_compared cursor_opened cursor_place cursor_start
+cursor_viewers = tt
 
 abbrev pub cursor_bucket : Cursor → BucketView
 cursor_bucket cursor = bucket_in (cursor_checked cursor) (cursor_start cursor)

@@ -1,5 +1,5 @@
 -- What a bucket has: the elements of the leaves that its addresses lead to, or those in its own value: docs/LISTING.md, "Entries".
-use Rattle.std.specs.Prelude.{◌≡◌, ◌==◌, ◌↔◌, ℕ, IsTrue, List, Some, Contains, if◌then◌else◌}
+use Rattle.std.specs.Prelude.{◌≡◌, ◌==◌, ◌↔◌, ℕ, IsTrue, List, [], Some, Contains, if◌then◌else◌}
 use Rattle.std.specs.declared.cmp.Ordering.{Ordering}
 use Rattle.bolt_lemmas.specs.Order.{Rises}
 use Rattle.bolt_format.specs.{Elements.LeafElement, Elements.head_root, Elements.head_sequence, Elements.inline_elements, Pages.PageView}
@@ -36,6 +36,11 @@ IsStart file meta (Inline_page elements) =
 pub data Item : Type 0 where
   Value : List ℕ → Item
   Bucket : (sequence : ℕ) → Item
+
+-- the bytes of a value; a bucket has none
+abbrev pub item_bytes : Item → List ℕ
+item_bytes (Value value) = value
+item_bytes (Bucket sequence) = []
 
 abbrev pub item_of : LeafElement → Item
 item_of e = if e.is_bucket then Bucket (head_sequence e.value) else Value e.value

@@ -1,6 +1,6 @@
 -- Paths: the keys from one bucket down, and what they hold: docs/LISTING.md, "Paths".
 -- Over any relation that says which elements a bucket has.
-use Rattle.std.specs.Prelude.{◌≡◌, ℕ, List, [], ◌∷◌, IsTrue, map}
+use Rattle.std.specs.Prelude.{◌≡◌, ◌-◌, ℕ, List, [], ◌∷◌, IsTrue, length, map, take}
 use Rattle.std.specs.{Borrow.Bor, Cmp.Lexicographic.slice_cmp, declared.cmp.Ordering.Ordering}
 use Rattle.bolt_format.specs.Elements.{LeafElement}
 use Rattle.bolt_check.specs.Keys.{key_cmp}
@@ -9,6 +9,16 @@ use Rattle.bolt_tree.specs.Entries.{AreEntries, Item, Start, item_of, start_of}
 
 abbrev pub Path : Type 0
 Path = List Key
+
+-- the path of the bucket that a path is in: all parts but the last
+abbrev pub path_above : Path → Path
+path_above path = take (length path - 1) path
+
+-- the last of some keys, as of a path; no bytes if there is none
+abbrev pub last_key : List Key → Key
+last_key [] = []
+last_key (key ∷ []) = key
+last_key (key ∷ next ∷ keys) = last_key (next ∷ keys)
 
 -- part by part in byte order; a path comes before those that it is a prefix of
 abbrev pub path_cmp : Path → Path → Ordering

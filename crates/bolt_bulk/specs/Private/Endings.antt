@@ -1,8 +1,8 @@
 -- What the end of a pass leaves, and what is known of the members of a listing.
-use Rattle.std.specs.Prelude.{◌≡◌, ◌<◌, ◌≤◌, List, [], ◌∷◌, ◌++◌, length, true, Result, IfErr, IfOk, OnErr}
-use Rattle.bolt_check.specs.{Keys.Key, Counts.saturated}
+use Rattle.std.specs.Prelude.{◌≡◌, ◌<◌, ◌≤◌, List, ◌++◌, length, true, Result, IfErr, IfOk, OnErr}
+use Rattle.bolt_check.specs.{Counts.saturated}
 use Rattle.bolt_format.specs.{ElementLengths.IsValueLength, Sinks.AppendsProperPrefix, Wrote.Wrote, declared.sink.Sink.Ghosts}
-use Rattle.bolt_tree.specs.{Entries.Bucket, Entries.Item, Entries.Value, Listing.Member, Paths.Path}
+use Rattle.bolt_tree.specs.{Entries.Bucket, Entries.Item, Entries.Value, Listing.Member, Paths.last_key}
 use Rattle.bolt_layout.specs.{Laid.Placed, Layout.layout_held, Layout.layout_high_water, Layout.layout_pages, Layout.layout_root, Layout.placed_bytes}
 use Rattle.bolt_layout.specs.declared.Layout.TheVariants.{Balanced, Plain}
 use Rattle.bolt_bulk.specs.{Private.FormatLimits.longest_key, Private.Passes.FitLimits, Private.Passes.Wanted, Private.Passes.limits_with}
@@ -29,16 +29,10 @@ pub record EndsPass {S : Type 0} (wanted : Wanted) (sink : Ghosts S) (old new : 
   pub short : OnErr result (AppendsProperPrefix (sink.taken old) (sink.taken new) (placed_bytes setup.page_size others))
   pub returned : ReturnsEnded wanted setup result
 
--- the last part of a path
-abbrev pub last_part : Path → Key
-last_part [] = []
-last_part (key ∷ []) = key
-last_part (key ∷ next ∷ path) = last_part (next ∷ path)
-
 -- a member has a path, with keys and values of lengths that the format allows
 abbrev pub HasItemLength : Item → Type 0
 HasItemLength (Value value) = IsValueLength (length value)
 HasItemLength (Bucket sequence) = Unit {0}
 
 abbrev pub HasMemberLengths : Member → Type 0
-HasMemberLengths member = (1 ≤ length member.0) × (length (last_part member.0) ≤ longest_key) × HasItemLength member.1
+HasMemberLengths member = (1 ≤ length member.0) × (length (last_key member.0) ≤ longest_key) × HasItemLength member.1

@@ -20,13 +20,13 @@ use Rattle.bolt_job.specs.declared.writing_commands.LoadJob.{LoadJob}
 module _ {O T : Type 0} (out : Ghosts O) (out_old out_new : O) (target : Ghosts T) (target_old target_new : T) where
   abbrev pub CompactsTo : CompactJob → List ℕ → JobEnding → Type 0
   CompactsTo job file ending =
-      MakesCopy out.taken out.failed out_old out_new target.taken target.failed target_old target_new file job.meta job.page_size (layout_for job.kind)
-      (is_snapshot job.kind) job.extent ending
+      MakesCopy out.taken out.failed out_old out_new target.taken target.failed target_old target_new file job.meta job.page_size job.kind
+      job.extent ending
 
   abbrev pub LoadsJob : LoadJob → List ℕ → JobEnding → Type 0
   LoadsJob job file ending =
-      Loads out.taken out.failed out_old out_new target.taken target.failed target_old target_new file job.page_size.bytes job.sequence
-      (layout_for job.kind) (is_snapshot job.kind) ending
+      Loads out.taken out.failed out_old out_new target.taken target.failed target_old target_new file job.page_size.bytes job.sequence job.kind
+      ending
 
 -- the blueprint of a copy of this kind and this page size, if one is asked for, and if the file has this meta
 pub record IsAskedBlueprint (kind : CopyKind) (size : Option PageSize) (meta : Meta) (blueprint : Blueprint) : Type 0 where

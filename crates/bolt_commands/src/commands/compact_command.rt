@@ -78,7 +78,7 @@ fn copy_contents<T: Sink>(
             let copied = copy_members(input.alloc, recovery, &blueprint, job.kind, target)?;
             Ok(copied)
         }
-        Contents::Searched(both) => copy_joined(input, job, both, &blueprint, target),
+        Contents::Searched(searched) => copy_joined(input, job, searched, &blueprint, target),
     }
 }
 
@@ -86,15 +86,15 @@ fn copy_contents<T: Sink>(
 fn copy_joined<T: Sink>(
     input: Input<'_>,
     job: &CompactJob,
-    both: &LostAndFound<'_>,
+    searched: &LostAndFound<'_>,
     blueprint: &Blueprint,
     target: &mut T,
 ) -> Result<u64, Failure>
-    requires { IsSearchOf input.file.now job.now.meta both.now }
-    ensures { CopiesJoined T.Sink target.old target.new job.now input.entry.file.now both.now blueprint.now result }
+    requires { IsSearchOf input.file.now job.now.meta searched.now }
+    ensures { CopiesJoined T.Sink target.old target.new job.now input.entry.file.now searched.now blueprint.now result }
 {
     each_file_has_a_joined_listing();
-    let mut joined = join(input, job.meta, both)?;
+    let mut joined = join(input, job.meta, searched)?;
     joined_members_are_whole(&joined);
     let copied = copy_members(input.alloc, &mut joined, blueprint, job.kind, target)?;
     Ok(copied)

@@ -1,7 +1,5 @@
 //! The command `etcd-repair`: a copy in which the revisions that are found are back in their bucket.
-ghost use Rattle.std.specs.Prelude.{◌≡◌};
-ghost use Rattle.bolt_layout.specs.declared.Layout.TheVariants.{Balanced};
-ghost use Rattle.bolt_commands.specs.{CopyLayouts.layout_for, Private.Repairing.CopiesRepaired, Private.Repairing.RepairsTo};
+ghost use Rattle.bolt_commands.specs.{Private.Repairing.CopiesRepaired, Private.Repairing.RepairsTo};
 ghost use Rattle.bolt_job.specs.CopyKinds.{is_snapshot};
 
 use crate::copies::{CopyReport, blueprint_of, copy_members, end_copy};
@@ -27,13 +25,12 @@ pub(crate) fn do_etcd_repair<O: Sink, T: Sink>(
     ensures { RepairsTo O.Sink out.old out.new T.Sink target.old target.new job.now
         input.entry.file.now result }
 {
-    let both = input.search(job.meta)?;
-    let repair = Repair::find(input.alloc, &both, job.search)?;
-    let kind = kind_of(job);
-    let faults = FileFaults::of_copy(input.file, kind, Extent::FoundPages, job.meta);
-    let blueprint = blueprint_of(kind, job.page_size, &both.meta);
-    let copy = copy_repaired(input.alloc, &repair, &blueprint, kind, target)?;
-    let lost = both.lost();
+    let searched = input.search(job.meta)?;
+    let repair = Repair::find(input.alloc, &searched, job.search)?;
+    let faults = FileFaults::of_copy(input.file, job.kind, Extent::FoundPages, job.meta);
+    let blueprint = blueprint_of(job.kind, job.page_size, &searched.meta);
+    let copy = copy_repaired(input.alloc, &repair, &blueprint, job.kind, target)?;
+    let lost = searched.lost();
     let unread = repair.unread.as_slice();
     let report = CopyReport {
         faults,
@@ -48,18 +45,6 @@ pub(crate) fn do_etcd_repair<O: Sink, T: Sink>(
         source: input.file.len() as u64,
     };
     end_copy(copy, &report, out)
-}
-
-/// What the copy is for: etcd writes to it, or restores it.
-fn kind_of(job: &EtcdRepairJob) -> CopyKind
-    ensures snapshot { is_snapshot result ≡ job.now.snapshot }
-    ensures layout { layout_for result ≡ Balanced }
-{
-    if job.snapshot {
-        CopyKind::EtcdSnapshot
-    } else {
-        CopyKind::ForBbolt
-    }
 }
 
 /// Writes the copy of the repaired listing, and returns its length.

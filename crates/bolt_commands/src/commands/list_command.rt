@@ -52,7 +52,7 @@ fn put_listed_part<O: Sink>(
     match contents {
         Contents::Sound(checked) => put_sound_part(input.alloc, *checked, job, out),
         Contents::Recovered(recovery) => Ok(put_members_part(input.alloc, recovery, job, out)?),
-        Contents::Searched(both) => put_joined_part(input, both, job, out),
+        Contents::Searched(searched) => put_joined_part(input, searched, job, out),
     }
 }
 
@@ -76,15 +76,15 @@ fn put_sound_part<O: Sink>(
 /// whether it has the bucket.
 fn put_joined_part<O: Sink>(
     input: Input<'_>,
-    both: &LostAndFound<'_>,
+    searched: &LostAndFound<'_>,
     job: &ListJob,
     out: &mut O,
 ) -> Result<bool, Failure>
-    requires { IsSearchOf input.file.now job.now.meta both.now }
-    ensures { PutsJoined O.Sink out.old out.new job.now input.entry.file.now both.now result }
+    requires { IsSearchOf input.file.now job.now.meta searched.now }
+    ensures { PutsJoined O.Sink out.old out.new job.now input.entry.file.now searched.now result }
 {
     each_file_has_a_joined_listing();
-    let mut joined = join(input, job.meta, both)?;
+    let mut joined = join(input, job.meta, searched)?;
     joined_members_rise(&joined);
     Ok(put_members_part(input.alloc, &mut joined, job, out)?)
 }

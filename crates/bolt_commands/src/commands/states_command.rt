@@ -11,10 +11,6 @@ use bolt_job::{PageSize, StatesJob};
 use bolt_recover::{States, find_states};
 use bolt_report::put_states;
 
-/// The page size of the pages that are tried if no meta is valid and none is asked for: that of most
-/// files.
-const USUAL_SIZE: u32 = 4096;
-
 /// Writes the line of each state of the file, the likeliest first. The file need not have a valid meta.
 pub(crate) fn do_states<O: Sink>(input: Input<'_>, job: &StatesJob, out: &mut O) -> Outcome
     ensures { PrintsAnswer O.Sink out.old out.new
@@ -33,7 +29,7 @@ fn tried_size(file: &[u8], asked: Option<PageSize>) -> u32
     match (asked, choose(file)) {
         (Some(size), _) => size.bytes as u32,
         (None, Ok((_, meta))) => meta.page_size,
-        (None, Err(_)) => USUAL_SIZE,
+        (None, Err(_)) => PageSize::USUAL.bytes as u32,
     }
 }
 

@@ -2,7 +2,7 @@
 use Rattle.std.specs.Prelude.{ℕ, false, List, [], ◌∷◌, ◌++◌, ◌==◌, codes, decimal, if◌then◌else◌}
 use Rattle.std.specs.Fmt.{digits}
 use Rattle.bolt_text.specs.{Forms.item_text, declared.forms.Form.TheVariants.Hex, declared.forms.Form.TheVariants.Printable}
-use Rattle.bolt_etcd.specs.{Check.NameFaults.NameFaultView, Wire.Others.No_record, Wire.Others.OtherView, Wire.Others.Other_key}
+use Rattle.bolt_etcd.specs.{Check.NameFaults.NameFaultView, Wire.UnreadEntries.No_record, Wire.UnreadEntries.UnreadView, Wire.UnreadEntries.Other_key}
 use Rattle.bolt_etcd.specs.{Wire.Revisions.RevisionView}
 use Rattle.bolt_etcd.specs.declared.{check.missing.Missing.Missing, check.missing.Missing.TheVariants.Revisions}
 use Rattle.bolt_etcd.specs.declared.{check.missing.Missing.TheVariants.Transactions, wire.revision_key.RevisionKey.RevisionKey}
@@ -14,10 +14,14 @@ numbers_then main sub rest = decimal main ++ (codes "." ++ (decimal sub ++ rest)
 abbrev pub revision_then : RevisionKey → List ℕ → List ℕ
 revision_then k rest = codes "revision " ++ numbers_then k.main k.sub rest
 
--- the line of an entry that isn't a revision
-abbrev pub other_line : OtherView → List ℕ
-other_line (Other_key key) = codes "key " ++ (item_text Hex key ++ codes ": not a revision\n")
-other_line (No_record k) = revision_then k (codes ": not a record\n")
+-- an entry that is neither a revision nor a mark, what is wrong with it, and then the rest of the line
+abbrev pub other_then : UnreadView → List ℕ → List ℕ
+other_then (Other_key key) rest = codes "key " ++ (item_text Hex key ++ (codes ": not a revision" ++ rest))
+other_then (No_record k) rest = revision_then k (codes ": not a record" ++ rest)
+
+-- the line of an entry that is neither a revision nor a mark
+abbrev pub other_line : UnreadView → List ℕ
+other_line other = other_then other (codes "\n")
 
 -- the line of a record of another revision
 abbrev pub misplaced_line : RevisionView → List ℕ

@@ -23,13 +23,13 @@ abbrev pub missing_after : ℕ → ℕ → List RevisionKey → List Missing
 missing_after main sub [] = []
 missing_after main sub (k ∷ ks) = missing_before main sub k ++ missing_after k.main (k.sub + 1) ks
 
--- the keys of later transactions
+-- whether a revision is of a later transaction than the compaction, and the keys of those that are
 abbrev pub is_of_later : ℕ → RevisionView → Bool
 is_of_later compacted r = nat_lt compacted r.key.main
 
 abbrev pub keys_above : ℕ → List RevisionView → List RevisionKey
 keys_above compacted rs = map (λ (r : RevisionView). r.key) (filter (is_of_later compacted) rs)
 
--- what is missing after a compaction; before transaction 2 there is none
+-- the numbers that are missing after a compaction; transaction 2 is the first that there can be
 abbrev pub missing_numbers : ℕ → List RevisionView → List Missing
 missing_numbers compacted rs = missing_after (max compacted 1) 0 (keys_above compacted rs)

@@ -6,7 +6,7 @@ use Rattle.bolt_check.specs.Keys.{Key}
 use Rattle.bolt_etcd.specs.{Check.CheckLines.name_fault_lines, Check.CheckLines.misplaced_line, Check.CheckLines.missing_line}
 use Rattle.bolt_etcd.specs.{Check.CheckLines.other_line, Store.Compacted.compacted_in}
 use Rattle.bolt_etcd.specs.{Check.Misplaced.misplaced, Check.MissingNumbers.missing_numbers, Check.NameFaults.has_lease, Check.NameFaults.name_faults}
-use Rattle.bolt_etcd.specs.{Wire.Numbered.numbered, Wire.Others.others_of, Wire.Revisions.RevisionView, Store.StoreBuckets.StoreView}
+use Rattle.bolt_etcd.specs.{Wire.Numbered.numbered, Wire.UnreadEntries.others_of, Wire.Revisions.RevisionView, Store.StoreBuckets.StoreView}
 use Rattle.bolt_etcd.specs.{Store.Stores.revisions}
 use Rattle.bolt_etcd.specs.declared.check.missing.Missing.{Missing}
 use Rattle.bolt_etcd.specs.Store.BucketNames.{bucket_names, key_bucket, lease_bucket, meta_bucket}
@@ -40,7 +40,7 @@ entry_lines compacted entries =
 abbrev pub name_lines : Option ℕ → (ℕ → Bool) → List RevisionView → List (List ℕ)
 name_lines compacted granted by_name = flat_map name_fault_lines (name_faults compacted granted None by_name)
 
--- up to which transaction it was compacted, if it has the bucket `meta`
+-- up to which transaction a store was compacted, if it has the bucket `meta`
 abbrev pub store_compacted : StoreView → Option ℕ
 store_compacted store = option_map compacted_in (store.bucket meta_bucket)
 

@@ -4,7 +4,7 @@ use Rattle.std.specs.List.{Contains}
 use Rattle.bolt_lemmas.specs.Order.{Rises}
 use Rattle.bolt_etcd.specs.{Histories.Compactions.IsCompaction, Histories.Compactions.kept_revisions, Histories.Transactions.Transaction}
 use Rattle.bolt_etcd.specs.{Check.MissingNumbers.missing_numbers, Histories.Possible.ArePossible}
-use Rattle.bolt_etcd.specs.{Wire.Revisions.RevisionView, Histories.Taken.IsTaken, Histories.Told.number_cmp, declared.check.missing.Missing.Missing}
+use Rattle.bolt_etcd.specs.{Wire.Revisions.RevisionView, Histories.Taken.IsTaken, Histories.Reported.number_cmp, declared.check.missing.Missing.Missing}
 
 -- a property holds of transactions that etcd can do, of one that they were compacted at, and of the revisions that are kept
 abbrev pub ForCompacted : (List Transaction → ℕ → List RevisionView → Type 0) → Type 0

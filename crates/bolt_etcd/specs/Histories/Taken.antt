@@ -16,6 +16,6 @@ pub record IsShownBy (next r : RevisionView) (before after : List RevisionView) 
   pub next_of_name : find (is_named (name_of r)) after ≡ Some next
   pub not_after_put : IsTrue next.key.deleted → value_if (newest (name_of r) before) ≡ None
 
--- a fault tells that the revision before this one is missing
-abbrev pub TellsOneBefore : RevisionView → List NameFaultView → Type 0
-TellsOneBefore r faults = (f : NameFaultView) × Contains faults f × (f.revision ≡ r) × IsTrue f.one_before
+-- a fault reports that the revision before this one is missing
+abbrev pub ReportsOneBefore : RevisionView → List NameFaultView → Type 0
+ReportsOneBefore r faults = (f : NameFaultView) × Contains faults f × (f.revision ≡ r) × IsTrue f.one_before

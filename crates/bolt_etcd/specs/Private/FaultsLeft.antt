@@ -36,7 +36,7 @@ IsNextFault pass granted f =
 abbrev pub ForFaultLines : NameFaults → (List (List ℕ) → Type 0) → Type 0
 ForFaultLines pass P = ForGranted (faults_leases pass) (λ granted. P (flat_map name_fault_lines (faults_left pass granted)))
 
--- the first is returned, and the others are left; or none is left
+-- the first fault is returned, and the others are left; or none is left
 abbrev pub GivesFault : (old new : List NameFaultView) → Option NameFault → Type 0
 GivesFault old new (Some f) = old ≡ shown_name_fault f ∷ new
 GivesFault old new None = (old ≡ []) × (new ≡ [])

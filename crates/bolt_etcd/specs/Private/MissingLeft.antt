@@ -26,7 +26,7 @@ missing_left m entries = option_to_list m.pending ++ missing_after m.main m.sub 
 unfoldable pub missing_number : MissingNumbers → ℕ
 missing_number m = 2 * number_ahead m.pass + length (option_to_list m.pending)
 
--- the first is returned, and the others are left; or none is left
+-- the first missing number is returned, and the others are left; or none is left
 abbrev pub GivesMissing : (old new : List Missing) → Option Missing → Type 0
 GivesMissing old new (Some m) = old ≡ m ∷ new
 GivesMissing old new None = (old ≡ []) × (new ≡ [])

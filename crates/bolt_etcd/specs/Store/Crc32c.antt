@@ -15,7 +15,7 @@ crc_polynomial = reversed 32 0x1EDC6F41
 unfoldable pub crc_bit : ℕ → ℕ
 crc_bit state = bit_xor (state / 2) (state % 2 * crc_polynomial)
 
--- n steps
+-- the state after n steps of the division
 unfoldable pub crc_bits : ℕ → ℕ → ℕ
 crc_bits zero state = state
 crc_bits (suc n) state = crc_bits n (crc_bit state)
@@ -24,7 +24,7 @@ crc_bits (suc n) state = crc_bits n (crc_bit state)
 abbrev pub crc_step : ℕ → ℕ → ℕ
 crc_step state byte = crc_bits 8 (bit_xor state byte)
 
--- the bytes from the left, from a state on
+-- the state after these bytes, from the left, if it was `state` before them
 abbrev pub crc_from : ℕ → List ℕ → ℕ
 crc_from state [] = state
 crc_from state (byte ∷ bytes) = crc_from (crc_step state byte) bytes

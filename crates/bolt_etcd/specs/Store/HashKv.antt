@@ -17,11 +17,12 @@ live_in (Some r) = live_of r
 abbrev pub is_current_at : (up_to : ℕ) → List RevisionView → RevisionView → Bool
 is_current_at up_to rs r = is_same_revision r (live_in (newest (name_of r) (until up_to rs)))
 
--- Left out is a deletion in the transaction of the last compaction. Up to that transaction, so is all that isn't current, unless nothing is.
+-- The sum leaves out a deletion in the transaction of the last compaction. Up to that transaction it also leaves out all that isn't current,
+-- unless nothing is current.
 abbrev pub is_left_out : (compacted : ℕ) → RevisionKey → (is_current any_current : Bool) → Bool
 is_left_out compacted k is_current any_current = (k.deleted && (k.main == compacted)) || (not (nat_lt compacted k.main) && (any_current && not is_current))
 
--- summed are those of no later transaction that aren't left out
+-- the sum has a revision or a mark if it is of no later transaction and isn't left out
 abbrev pub is_summed : (up_to compacted : ℕ) → List RevisionView → RevisionView → Bool
 is_summed up_to compacted rs r = is_until up_to r && not (is_left_out compacted r.key (is_current_at up_to rs r) (list_any (is_current_at up_to rs) rs))
 
@@ -37,7 +38,7 @@ summed up_to compacted entries = filter (λ e. passes (is_summed up_to compacted
 unfoldable pub hash_kv : (up_to compacted : ℕ) → List LeafElement → ℕ
 hash_kv up_to compacted entries = crc_of (key_bucket ++ flat_map (λ e. e.key ++ e.value) (summed up_to compacted entries))
 
--- the hash is unknown if there are entries that aren't revisions
+-- the hash is unknown if there are entries that are neither revisions nor marks
 abbrev pub hash_unless : (others : List LeafElement) → ℕ → Option ℕ
 hash_unless [] hash = Some hash
 hash_unless (e ∷ others) hash = None

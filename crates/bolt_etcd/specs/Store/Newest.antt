@@ -13,7 +13,7 @@ is_until up_to r = not (nat_lt up_to r.key.main)
 abbrev pub until : ℕ → List RevisionView → List RevisionView
 until up_to rs = filter (is_until up_to) rs
 
--- the last one of this name, if there is one
+-- the last revision of this name, if there is one
 unfoldable pub newest : List ℕ → List RevisionView → Option RevisionView
 newest name rs = last_or None (filter (is_named name) rs)
 

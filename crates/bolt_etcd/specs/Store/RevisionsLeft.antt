@@ -1,5 +1,5 @@
 -- What a pass over the revisions of a bucket has ahead of it.
-use Rattle.std.specs.Prelude.{◌≡◌, ℕ, Bool, false, List, [], ◌∷◌, length, not, Option, Some, None}
+use Rattle.std.specs.Prelude.{◌≡◌, ℕ, Bool, false, List, [], ◌∷◌, length, not, Option, Some, None, ⊤}
 use Rattle.std.specs.Option.{is_some}
 use Rattle.bolt_format.specs.Elements.{LeafElement}
 use Rattle.bolt_check.specs.{CheckedFiles.bytes_of, CheckedFiles.meta_of, Counts.counted, Keys.Key, declared.checked.Checked.Checked}
@@ -16,7 +16,7 @@ pass_checked pass = cursor_checked pass.cursor
 unfoldable pub pass_start : Revisions → Start
 pass_start pass = cursor_start pass.cursor
 
--- how many entries that aren't revisions a pass has gone over
+-- how many entries that are neither revisions nor marks a pass has counted
 unfoldable pub pass_others : Revisions → ℕ
 pass_others pass = pass.others
 
@@ -48,7 +48,7 @@ ForPass pass P = ForEntries (pass_checked pass) (pass_start pass) P
 abbrev pub ForAhead : Revisions → (List LeafElement → Type 0) → Type 0
 ForAhead pass P = ForPass pass (λ entries. P (ahead_of pass entries))
 
--- The first revision of those ahead is returned, or there is none, and nothing is left; and the entries before it are counted.
+-- A pass returns the first revision ahead of it, and the later ones are left. Or there is none, and no entry is left.
 abbrev pub GivesFirst : (old new : List LeafElement) → Option RevisionView → Type 0
 GivesFirst old new (Some r) = revisions old ≡ r ∷ revisions new
 GivesFirst old new None = (revisions old ≡ []) × (new ≡ [])
@@ -56,7 +56,7 @@ GivesFirst old new None = (revisions old ≡ []) × (new ≡ [])
 abbrev pub CountsOthers : (old new : List LeafElement) → (before after : ℕ) → Type 0
 CountsOthers old new before after = counted after (length (others new)) ≡ counted before (length (others old))
 
--- the entries between the two places that aren't revisions are counted
+-- a pass counts the entries between its two places that are neither revisions nor marks
 abbrev pub CountsPassed : (old new : Revisions) → Type 0
 CountsPassed old new = ForPass old (λ entries. CountsOthers (ahead_of old entries) (ahead_of new entries) (pass_others old) (pass_others new))
 
@@ -67,6 +67,11 @@ OpensAt bucket None place old new = OpensByNext bucket place old new
 
 unfoldable pub OpensOne : Revisions → (new : ℕ) → Type 0
 OpensOne pass new = OpensAt (bucket_in (pass_checked pass) (pass_start pass)) pass.from (cursor_place pass.cursor) (pass_opened pass) new
+
+-- all that a pass shows, to be unfolded together
+unfoldable pub pass_viewers : ⊤
+unfolding OpensOne ahead_of pass_checked pass_opened pass_others pass_start
+pass_viewers = tt
 
 -- the first of these isn't a revision
 abbrev pub begins_with_other : List LeafElement → Bool

@@ -4,14 +4,14 @@ use Rattle.std.specs.{List.filter_map, Option.is_some}
 use Rattle.bolt_format.specs.Elements.{LeafElement}
 use Rattle.bolt_check.specs.{Counts.counted, Keys.Key}
 use Rattle.bolt_tree.specs.{Entries.entry_view, Places.least_from, declared.bucket.Bucket.Bucket, EntriesLeft.ForBucket}
-use Rattle.bolt_etcd.specs.{Wire.Others.other_of, Wire.Revisions.RevisionView, Wire.Revisions.revision_of, Wire.ShownRevisions.shown_revision}
+use Rattle.bolt_etcd.specs.{Wire.UnreadEntries.other_of, Wire.Revisions.RevisionView, Wire.Revisions.revision_of, Wire.ShownRevisions.shown_revision}
 use Rattle.bolt_etcd.specs.{declared.store.revision_list.RevisionList.RevisionList}
 
 -- the revisions among entries
 abbrev pub revisions : List LeafElement → List RevisionView
 revisions entries = filter_map (λ e. revision_of (entry_view e)) entries
 
--- the entries that aren't revisions, nor marks
+-- the entries that are neither revisions nor marks
 abbrev pub others : List LeafElement → List LeafElement
 others entries = filter (λ e. is_some (other_of (entry_view e))) entries
 
@@ -27,6 +27,6 @@ IsCollected entries found = (map shown_revision found.revisions.items ≡ revisi
 abbrev pub ForCollected : Bucket → RevisionList → (List LeafElement → Type 0) → Type 0
 ForCollected bucket found P = ForBucket bucket (λ entries. IsCollected entries found → P entries)
 
--- a property holds of a bucket's entries, if `number` of them aren't revisions
+-- a property holds of a bucket's entries, if `number` of them are neither revisions nor marks
 abbrev pub ForOthers : Bucket → ℕ → (List LeafElement → Type 0) → Type 0
 ForOthers bucket number P = ForBucket bucket (λ entries. number ≡ counted 0 (length (others entries)) → P entries)

@@ -22,7 +22,7 @@ numbered_of e = value_of e.item >>= numbered_in e.key
 abbrev pub numbered : List LeafElement → List RevisionView
 numbered entries = filter_map (λ e. numbered_of (entry_view e)) entries
 
--- the key of the first is returned, and the others are left; or none is left
+-- the key of the first revision or mark is returned, and the later ones are left; or none is left
 abbrev pub GivesNumber : (old new : List LeafElement) → Option RevisionKey → Type 0
 GivesNumber old new (Some k) = (r : RevisionView) × (numbered old ≡ r ∷ numbered new) × (r.key ≡ k)
 GivesNumber old new None = (numbered old ≡ []) × (new ≡ [])

@@ -10,7 +10,7 @@ pub record RecordView : Type 0 where
   pub value : List ℕ
   pub lease : ℕ
 
--- what isn't there is empty or 0
+-- a field that isn't there is empty or 0
 abbrev pub empty : RecordView
 empty = record { name = []; created = 0; modified = 0; version = 0; value = []; lease = 0 }
 

@@ -5,7 +5,7 @@ use Rattle.std.specs.{Ordering.bool_cmp, Ordering.nat_cmp, Ordering.ordering_the
 use Rattle.byteorder.specs.Endian.{big_bytes, big_number}
 use Rattle.bolt_etcd.specs.declared.wire.revision_key.RevisionKey.{RevisionKey}
 
--- eight bytes of main, `_`, eight bytes of sub
+-- the numbers of a revision key, from its bytes: eight of main, `_`, eight of sub
 abbrev pub numbers : List ℕ → Bool → Option RevisionKey
 numbers bytes deleted =
     if (slice_index bytes 8 == 0x5F) && nat_lt (big_number 8 bytes) (2 ^ 63) && nat_lt (big_number 8 (drop 9 bytes)) (2 ^ 63)
@@ -23,7 +23,7 @@ revision_key bytes =
 unfoldable pub spelling : RevisionKey → List ℕ
 spelling k = big_bytes 8 k.main ++ (0x5F ∷ (big_bytes 8 k.sub ++ (if k.deleted then 0x74 ∷ [] else [])))
 
--- what has a spelling
+-- a revision key has a spelling if both numbers are below 2^63
 abbrev pub IsSpelled : RevisionKey → Type 0
 IsSpelled k = (k.main < 2 ^ 63) × (k.sub < 2 ^ 63)
 

@@ -1,7 +1,7 @@
 -- What a revision of the code shows, without where its bytes lie in memory.
 use Rattle.std.specs.Prelude.{ℕ, false, List, [], Option, Some, None}
 use Rattle.bolt_check.specs.Keys.{Key}
-use Rattle.bolt_tree.specs.Entries.{Bucket, EntryView, Item, Value}
+use Rattle.bolt_tree.specs.Entries.{EntryView, Value, item_bytes}
 use Rattle.bolt_etcd.specs.{Wire.Records.empty, Wire.Revisions.RevisionView, Wire.Revisions.revision_in, Wire.ShownRecords.shown_record}
 use Rattle.bolt_etcd.specs.{declared.wire.revision.DecodedRevision.DecodedRevision, declared.wire.revision.Revision.Revision}
 
@@ -24,9 +24,5 @@ entry_of r = record { key = r.key.now; item = Value r.value.now }
 
 -- ---- what an entry says, without its record
 
-abbrev pub bytes_of_item : Item → List ℕ
-bytes_of_item (Value value) = value
-bytes_of_item (Bucket sequence) = []
-
 abbrev pub value_bytes : EntryView → List ℕ
-value_bytes e = bytes_of_item e.item
+value_bytes e = item_bytes e.item

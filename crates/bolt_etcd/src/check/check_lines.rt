@@ -2,52 +2,64 @@
 ghost use Rattle.std.specs.Prelude.{[], if◌then◌else◌};
 ghost use Rattle.std.specs.List.{concat};
 ghost use Rattle.bolt_format.specs.{Endings.ending, Wrote.Wrote};
-ghost use Rattle.bolt_etcd.specs.Check.CheckLines.{name_fault_lines, lease_line, misplaced_line, missing_line, one_before_line, other_line};
-ghost use Rattle.bolt_etcd.specs.{Private.FaultsLeft.shown_name_fault, Wire.Others.No_record, Wire.Others.Other_key, Wire.Others.shown_other};
+ghost use Rattle.bolt_etcd.specs.Check.CheckLines.{name_fault_lines, lease_line, misplaced_line, missing_line, one_before_line, other_then};
+ghost use Rattle.bolt_etcd.specs.{Private.FaultsLeft.shown_name_fault, Wire.UnreadEntries.No_record, Wire.UnreadEntries.Other_key, Wire.UnreadEntries.shown_unread};
 ghost use Rattle.bolt_etcd.specs.{Wire.ShownRevisions.shown_decoded, Wire.ShownRevisions.shown_revision};
 ghost use Rattle.bolt_check.specs.Keys.{Key};
 
 use crate::check::missing::Missing;
 use crate::check::name_faults::NameFault;
-use crate::wire::other::Other;
 use crate::wire::revision::{DecodedRevision, Revision};
 use crate::wire::revision_key::RevisionKey;
+use crate::wire::unread_entry::UnreadEntry;
 use bolt_format::{Sink, SinkFault};
 use bolt_text::{Piece, printable, put_pieces};
 
-/// Writes the line of an entry that isn't a revision.
-pub(crate) fn put_other<S: Sink>(other: &Other<'_>, sink: &mut S) -> Result<(), SinkFault>
-    ensures { Wrote S.Sink sink.old sink.new (other_line (shown_other other.now)) (ending result) }
+/// Writes which entry isn't a revision, what is wrong with it, and then the end of the line.
+///
+/// # Errors
+///
+/// `SinkFault` if the sink failed. It has then accepted a prefix of the text.
+pub fn put_unread_entry<S: Sink>(
+    other: &UnreadEntry<'_>,
+    end: &[u8],
+    sink: &mut S,
+) -> Result<(), SinkFault>
+    ensures { Wrote S.Sink sink.old sink.new (other_then (shown_unread other.now) end.now)
+        (ending result) }
 {
     match other {
-        Other::Key(key) => put_no_revision(key, sink),
-        Other::Record(key) => put_no_record(*key, sink),
+        UnreadEntry::Key(key) => put_no_revision(key, end, sink),
+        UnreadEntry::Record(key) => put_no_record(*key, end, sink),
     }
 }
 
 /// Writes that an entry with this key isn't a revision.
-fn put_no_revision<S: Sink>(key: &[u8], sink: &mut S) -> Result<(), SinkFault>
-    ensures { Wrote S.Sink sink.old sink.new (other_line (Other_key key.now)) (ending result) }
+fn put_no_revision<'t, S: Sink>(key: &'t [u8], end: &'t [u8], sink: &mut S) -> Result<(), SinkFault>
+    ensures { Wrote S.Sink sink.old sink.new (other_then (Other_key key.now) end.now)
+        (ending result) }
 {
     put_pieces(
         &[
             Piece::Bytes(b"key "),
             Piece::Hex(key),
-            Piece::Bytes(b": not a revision\n"),
+            Piece::Bytes(b": not a revision"),
+            Piece::Bytes(end),
         ],
         sink,
     )
 }
 
 /// Writes that the value under this key isn't a record.
-fn put_no_record<S: Sink>(key: RevisionKey, sink: &mut S) -> Result<(), SinkFault>
-    ensures { Wrote S.Sink sink.old sink.new (other_line (No_record key)) (ending result) }
+fn put_no_record<S: Sink>(key: RevisionKey, end: &[u8], sink: &mut S) -> Result<(), SinkFault>
+    ensures { Wrote S.Sink sink.old sink.new (other_then (No_record key) end.now) (ending result) }
 {
     put_pieces(
         &[
             Piece::Field(b"revision ", key.main),
             Piece::Field(b".", key.sub),
-            Piece::Bytes(b": not a record\n"),
+            Piece::Bytes(b": not a record"),
+            Piece::Bytes(end),
         ],
         sink,
     )

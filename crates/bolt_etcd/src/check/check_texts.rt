@@ -11,7 +11,7 @@ ghost use Rattle.bolt_etcd.specs.{Private.MissingLeft.ForMissing, Private.Missin
 ghost use Rattle.bolt_etcd.specs.Check.StoreFaults.{other_lines};
 ghost use Rattle.bolt_etcd.specs.Store.RevisionsLeft.{ForAhead};
 
-use crate::check::check_lines::{put_misplaced, put_missing, put_name_fault, put_other};
+use crate::check::check_lines::{put_misplaced, put_missing, put_name_fault, put_unread_entry};
 use crate::check::missing::MissingNumbers;
 use crate::check::name_faults::{NameFault, NameFaults};
 use crate::store::revisions::Revisions;
@@ -27,8 +27,8 @@ pub(crate) fn put_others<S: Sink>(mut pass: Revisions<'_>, sink: &mut S) -> Resu
         ForAhead pass.entry (λ entries. n ≡ counted 0 (length (other_lines entries)))) }
 {
     let mut number = 0_u64;
-    'rest: while let Some(other) = pass.next_other() {
-        put_other(&other, sink)?;
+    'rest: while let Some(other) = pass.next_unread() {
+        put_unread_entry(&other, b"\n", sink)?;
         number = number.saturating_add(1);
     }
     Ok(number)

@@ -2,7 +2,7 @@
 ghost use Rattle.std.specs.Prelude.{◌≡◌, IfOk, filter, length, map};
 ghost use Rattle.bolt_check.specs.Counts.{counted};
 ghost use Rattle.std.specs.List.Sorted.{IsPermutation, IsSorted};
-ghost use Rattle.bolt_etcd.specs.Store.Current.{AreNewest, HaveOwnKeys};
+ghost use Rattle.bolt_etcd.specs.Store.Current.{AreCurrentBySum, HaveOwnKeys};
 ghost use Rattle.bolt_etcd.specs.Store.Orders.{name_cmp, stored_key_cmp};
 ghost use Rattle.bolt_etcd.specs.{Store.HashKv.is_current_at, Wire.ShownRevisions.shown_revision, Store.Stores.others, Store.Stores.revisions};
 ghost use Rattle.bolt_tree.specs.EntriesLeft.{ForBucket};
@@ -20,8 +20,8 @@ use std::cmp::Ordering;
 pub struct Current<'a> {
     /// The newest revision of each key, by rising name. None is a deletion.
     pub revisions: Vec<Revision<'a>>,
-    /// The number of entries that aren't revisions. One of them may have been newer. It saturates
-    /// at 2^64 - 1.
+    /// The number of entries that are neither revisions nor marks. One of them may have been newer. It
+    /// saturates at 2^64 - 1.
     pub others: u64,
 }
 
@@ -53,7 +53,7 @@ impl<'a> Current<'a> {
 /// any order, but no two under one key. Needs no memory.
 pub fn keep_newest(revisions: &mut Vec<Revision<'_>>)
     ensures { let found = map shown_revision revisions.old.items in
-        HaveOwnKeys found → AreNewest found (map shown_revision revisions.new.items) }
+        HaveOwnKeys found → AreCurrentBySum found (map shown_revision revisions.new.items) }
 {
     sort_newest_by_sum(revisions);
     revisions.dedup_by(|older, newest| older.name() == newest.name());

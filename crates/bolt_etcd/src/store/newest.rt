@@ -14,8 +14,8 @@ use bolt_tree::Bucket;
 pub struct Newest<'a> {
     /// The revision, which may be a deletion, or `None` if there is none.
     pub revision: Option<Revision<'a>>,
-    /// The number of entries that aren't revisions. One of them may have been newer. It saturates
-    /// at 2^64 - 1.
+    /// The number of entries that are neither revisions nor marks. One of them may have been newer. It
+    /// saturates at 2^64 - 1.
     pub others: u64,
 }
 

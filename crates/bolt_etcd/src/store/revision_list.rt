@@ -17,7 +17,7 @@ use std::cmp::Ordering;
 pub struct RevisionList<'a> {
     /// The revisions.
     pub revisions: Vec<Revision<'a>>,
-    /// The number of entries that aren't revisions. It saturates at 2^64 - 1.
+    /// The number of entries that are neither revisions nor marks. It saturates at 2^64 - 1.
     pub others: u64,
 }
 

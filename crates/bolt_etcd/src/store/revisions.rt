@@ -4,12 +4,12 @@ ghost use Rattle.std.specs.{Int.to_be_bytes, Int.w64, Option.option_map};
 ghost use Rattle.bolt_tree.specs.{BucketViews.bucket_in, CursorBounds.OpensGap, CursorBounds.OpensSeek, Buckets.bucket_checked, Buckets.bucket_start};
 ghost use Rattle.bolt_tree.specs.{ShownEntries.shown_entry};
 ghost use Rattle.bolt_etcd.specs.{Wire.ShownRevisions.shown_revision, Store.Stores.entries_from, Wire.Numbered.numbered_of};
-ghost use Rattle.bolt_etcd.specs.{Wire.RevisionKeys.IsSpelled, Wire.Others.shown_other};
+ghost use Rattle.bolt_etcd.specs.{Wire.RevisionKeys.IsSpelled, Wire.UnreadEntries.shown_unread};
 
 use crate::wire::numbered_entry::NumberedEntry;
-use crate::wire::other::{Other, others_in};
 use crate::wire::revision::Revision;
 use crate::wire::revision_key::RevisionKey;
+use crate::wire::unread_entry::{UnreadEntry, others_in};
 use bolt_tree::{Bucket, Cursor, Entry};
 
 /// A pass over the revisions of a bucket, in the order of their keys. It keeps nothing of those that
@@ -22,7 +22,7 @@ pub struct Revisions<'a> {
     others: u64,
 }
 
-#[tactic(auto, unfolding(crate::specs::Store::RevisionsLeft::OpensOne, crate::specs::Store::RevisionsLeft::ahead_of, crate::specs::Store::RevisionsLeft::pass_checked, crate::specs::Store::RevisionsLeft::pass_opened, crate::specs::Store::RevisionsLeft::pass_others, crate::specs::Store::RevisionsLeft::pass_start))]
+#[tactic(auto, unfolding(crate::specs::Store::RevisionsLeft::pass_viewers))]
 impl<'a> Revisions<'a> {
     ghost use Rattle.bolt_etcd.specs.Private.Passes.{ShowsFirst};
     ghost use Rattle.bolt_etcd.specs.Store.RevisionsLeft.{CountsPassed, ForPass, GivesFirst, OpensOne, ahead_of, begins_with_other, number_ahead};
@@ -89,8 +89,8 @@ impl<'a> Revisions<'a> {
         None
     }
 
-    /// The number of entries that it has passed over since they aren't revisions. It saturates at
-    /// 2^64 - 1.
+    /// The number of entries that `next` has passed over and that are neither revisions nor marks. It
+    /// saturates at 2^64 - 1.
     pub fn others(&self) -> u64
         ensures { result ≡ pass_others self.now }
     {
@@ -122,22 +122,22 @@ impl<'a> Revisions<'a> {
 }
 
 impl<'a> Revisions<'a> {
-    ghost use Rattle.bolt_etcd.specs.{Wire.Numbered.GivesNumber, Wire.Others.GivesOther};
+    ghost use Rattle.bolt_etcd.specs.{Wire.Numbered.GivesNumber, Wire.UnreadEntries.GivesOther};
     ghost use Rattle.bolt_etcd.specs.Store.RevisionsLeft.{ForPass, ahead_of, number_ahead, pass_checked, pass_others, pass_start};
 
-    /// Returns the next entry that isn't a revision, or `None` if there is none. Revisions and marks
-    /// are passed over, and nothing is counted.
-    pub fn next_other(&mut self) -> Option<Other<'a>>
+    /// Returns the next entry that is neither a revision nor a mark, or `None` if there is none. It
+    /// counts nothing.
+    pub fn next_unread(&mut self) -> Option<UnreadEntry<'a>>
         ensures checked { pass_checked self.new ≡ pass_checked self.old }
         ensures start { pass_start self.new ≡ pass_start self.old }
         ensures others { pass_others self.new ≡ pass_others self.old }
         ensures given { ForPass self.old (λ entries.
             GivesOther (ahead_of self.old entries) (ahead_of self.new entries)
-            (option_map shown_other result)) }
+            (option_map shown_unread result)) }
         ensures fewer { IfSome result (λ _. number_ahead self.new < number_ahead self.old) }
     {
         'rest: while let Some(entry) = self.advance() {
-            let other = Other::of(&entry);
+            let other = UnreadEntry::of(&entry);
             if other.is_some() {
                 return other;
             }

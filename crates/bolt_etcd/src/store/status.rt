@@ -21,7 +21,7 @@ use std::alloc::Global;
 /// What etcd would report of a store at a transaction (docs/COMMANDS.md, "etcd-status").
 #[derive(Clone, Copy, Debug, PartialEq, Eq)]
 pub struct StoreStatus {
-    /// The number of the last transaction.
+    /// The store's revision: the greatest of `newest`, `compacted` and 1.
     pub revision: u64,
     /// The greatest number of a transaction that a revision or a mark has, or 0.
     pub newest: u64,
@@ -35,9 +35,9 @@ pub struct StoreStatus {
     pub consistent_index: Option<u64>,
     /// The term of that entry of the log.
     pub term: Option<u64>,
-    /// The HashKV of the store, unless it has entries that aren't revisions.
+    /// The HashKV of the store, unless it has entries that are neither revisions nor marks.
     pub hash: Option<u32>,
-    /// The number of these. It saturates at 2^64 - 1.
+    /// The number of entries that are neither revisions nor marks. It saturates at 2^64 - 1.
     pub others: u64,
 }
 

@@ -1,15 +1,11 @@
 -- The bytes that a text has in hexadecimal, one line after another.
 use Rattle.std.specs.Prelude.{◌≡◌, ◌<◌, ℕ, List, [], ◌∷◌, ◌++◌, All, IsSome, Option, Some, None, length, take, flat_map}
-use Rattle.bolt_tree.specs.{Entries.Bucket, Entries.Item, Entries.Value, Listing.Member, Paths.Path}
+use Rattle.bolt_tree.specs.{Entries.Item, Entries.item_bytes, Listing.Member, Paths.Path}
 use Rattle.bolt_text.specs.{LineMembers.line_member, LineMembers.members_of_lines, Lines.Text, Lines.lines_of}
 use Rattle.bolt_load.specs.{LineFaults.shape_fault, declared.load_fault.LineFault.LineFault}
 
 abbrev pub path_bytes : Path → List ℕ
 path_bytes path = flat_map (λ part. part) path
-
-abbrev pub item_bytes : Item → List ℕ
-item_bytes (Value value) = value
-item_bytes (Bucket sequence) = []
 
 abbrev pub member_bytes : Member → List ℕ
 member_bytes member = path_bytes member.0 ++ item_bytes member.1
@@ -25,7 +21,7 @@ pub record AddsDecoded (found : Option (List ℕ)) (old new : List ℕ) : Type 0
 
 -- each of these lines tells a member, and the bytes begin with those of all of them
 pub record AreDecoded (lines : List Text) (bytes : List ℕ) : Type 0 where
-  pub tell : All (λ line. IsSome (line_member line)) lines
+  pub say : All (λ line. IsSome (line_member line)) lines
   pub begin : take (length (listing_bytes (members_of_lines lines))) bytes ≡ listing_bytes (members_of_lines lines)
 
 -- a front of the bytes

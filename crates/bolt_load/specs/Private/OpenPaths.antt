@@ -1,8 +1,8 @@
 -- The place of a member by the path before it alone.
 use Rattle.std.specs.Prelude.{◌||◌, ◌&&◌, Bool, Option, Some, None, length, nat_lt, not, if◌then◌else◌}
 use Rattle.std.specs.Ordering.{is_lt}
-use Rattle.bolt_tree.specs.{ListingParts.begins_with, Paths.Path, Paths.path_cmp}
-use Rattle.bolt_load.specs.{LineFaults.path_above, declared.load_fault.LineFault.LineFault}
+use Rattle.bolt_tree.specs.{ListingParts.begins_with, Paths.Path, Paths.path_above, Paths.path_cmp}
+use Rattle.bolt_load.specs.{declared.load_fault.LineFault.LineFault}
 use Rattle.bolt_load.specs.declared.load_fault.LineFault.TheVariants.{NoBucketAbove, PathNotRising}
 
 -- The bucket above a path is one that the last path goes through, or that it is the path of.

@@ -18,8 +18,8 @@ abbrev pub holds_key : List Member → Bool
 holds_key [] = false
 holds_key (m ∷ listing) = is_found_path m.0 || holds_key listing
 
-abbrev pub TellsBucketKey : List Member → Bool → Type 0
-TellsBucketKey listing has = has ≡ holds_key listing
+abbrev pub ReportsBucketKey : List Member → Bool → Type 0
+ReportsBucketKey listing has = has ≡ holds_key listing
 
 -- The found pages are those of the file, whose page numbers have sixteen digits at most. If there is one, the recovered listing leaves room for
 -- their bucket.

@@ -4,7 +4,7 @@ use Rattle.std.specs.List.{All}
 use Rattle.bolt_format.specs.declared.meta.Meta.{Meta}
 use Rattle.bolt_check.specs.{CheckedFiles.bytes_of, CheckedFiles.meta_of, Counts.saturated, Sound.HasSoundTrees}
 use Rattle.bolt_recover.specs.{Found.AreFound, Found.found_numbers, PageGaps.ForGaps, PageGaps.page_gap_view, Losses.LostView, Losses.everything}
-use Rattle.bolt_recover.specs.{Losses.parts, Lost.IsAllLost, Private.Joining.TellsBucketKey, Recovered.ForRecovered}
+use Rattle.bolt_recover.specs.{Losses.parts, Lost.IsAllLost, Private.Joining.ReportsBucketKey, Recovered.ForRecovered}
 use Rattle.bolt_recover.specs.{ShownFound.IsFoundView, ShownLosses.loss_view, declared.found_page.FoundPage.FoundPage, declared.losses.Damage.Damage}
 use Rattle.bolt_recover.specs.{declared.lost_and_found.Trees.Trees}
 use Rattle.bolt_recover.specs.declared.lost_and_found.Trees.TheVariants.{Damaged, Rootless, Sound}
@@ -16,7 +16,7 @@ lost_of (Rootless x) = everything x
 
 -- what is known of damaged trees beside what is lost
 pub record IsDamage (file : List ℕ) (meta : Meta) (damage : Damage) : Type 0 where
-  pub key : ForRecovered file meta (λ listing. TellsBucketKey listing damage.has_bucket_key)
+  pub key : ForRecovered file meta (λ listing. ReportsBucketKey listing damage.has_bucket_key)
   pub number : ForRecovered file meta (λ listing. damage.members ≡ saturated (length listing))
   pub gaps : ForGaps file meta (λ gaps. map page_gap_view damage.gaps.items ≡ gaps)
   pub unsound : HasSoundTrees file meta → ⊥

@@ -6,9 +6,10 @@ use Rattle.bolt_lemmas.specs.Order.{Rises}
 use Rattle.bolt_format.specs.{Bytes.IsBytes, declared.meta.Meta.Meta}
 use Rattle.bolt_layout.specs.Storable.{IsFitListing}
 use Rattle.bolt_tree.specs.{Listing.Member, Listing.member_cmp, Tree.Tree, Tree.listing_of}
-use Rattle.bolt_repair.specs.{Repaired.IsRepaired, Repaired.repaired_listing, RepairedMembers.repaired_file, RepairedMembers.repaired_meta}
-use Rattle.bolt_repair.specs.{RepairedMembers.repaired_search, RepairedMerges.repair_back, RepairedMerges.repair_made}
+use Rattle.bolt_repair.specs.{Repaired.IsRepaired, Repaired.repaired_listing}
+use Rattle.bolt_repair.specs.{RepairedMerges.repair_back, RepairedMerges.repair_made}
 use Rattle.bolt_commands.proofs.RepairedFits.{listing_fits}
+use Rattle.bolt_repair.specs.RepairedMembers.{repaired_viewers}
 use Rattle.bolt_commands.proofs.laws.repaired_members_are_whole.Goals as goal
 
 fit : (file : List ℕ) (meta : Meta) (search : Bool) (listing : List Member) → IsBytes file → (is : IsRepaired file meta search listing)
@@ -23,10 +24,10 @@ fit file meta search listing bytes is rises (tree, same) = record {
 }
 
 pub returns : goal.returns
-unfolding repaired_file repaired_meta repaired_search
+unfolding repaired_viewers
 returns c =
     let repair = c.args.repaired.now.repair.now in
-    let both = repair.both.now in
+    let both = repair.searched.now in
     let of = c.repaired_listing_is_of_a_tree.ensures in
     record {
       some = ∥∥₁_map repair.goes_back (λ back. (

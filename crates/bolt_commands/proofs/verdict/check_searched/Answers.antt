@@ -9,13 +9,13 @@ check_whole-requires-clause-whole g c = ap is_nothing (sym c.lost-lost.ensures) 
 
 pub put_lost_after-requires : goal.put_lost_after-requires
 put_lost_after-requires g c =
-    rw c.as_slice-found.ensures.value (are_leaves c.args.checking.input.file.now c.args.both.now.meta c.args.both.now.found.items c.requires.views)
+    rw c.as_slice-found.ensures.value (are_leaves c.args.checking.input.file.now c.args.searched.now.meta c.args.searched.now.found.items c.requires.views)
 
 pub returns : goal.returns
 returns g c =
     let checking = c.args.checking in
     let file = checking.input.file.now in
-    let both = c.args.both.now in
+    let both = c.args.searched.now in
     let is = c.requires in
     let some = ap is_nothing (sym c.lost-lost.ensures) ∙ sym c.is_nothing.ensures ∙ c.if-is_nothing.false in
     let whole = rw is.bytes at (c.gaps-gaps.ensures some) in

@@ -8,15 +8,15 @@ use Rattle.bolt_commands.specs.declared.failure.Failure.TheVariants.{Memory}
 use Rattle.bolt_commands.proofs.verdict.check_whole.Goals as goal
 
 pub visit_all-requires : goal.visit_all-requires
-visit_all-requires g c = some_page_size c.args.checking.input.file.now c.args.checking.choice c.args.both.now.meta c.requires.search.under
+visit_all-requires g c = some_page_size c.args.checking.input.file.now c.args.checking.choice c.args.searched.now.meta c.requires.search.under
 
 pub returns-in_default : goal.returns-in_default
-returns-in_default g c = record { is = answer_nothing Memory _ (inr (inr ((c.args.both.now.meta, c.requires.search.under), refl)), refl) refl }
+returns-in_default g c = record { is = answer_nothing Memory _ (inr (inr ((c.args.searched.now.meta, c.requires.search.under), refl)), refl) refl }
 
 pub check_kept-requires : goal.check_kept-requires
 check_kept-requires g c =
     let file = c.args.checking.input.file.now in
-    let both = c.args.both.now in
+    let both = c.args.searched.now in
     let search = c.requires.search in
     record {
       bytes = c.in-Ok.ensures.file;
@@ -29,7 +29,7 @@ pub returns : goal.returns
 returns g c =
     let checking = c.args.checking in
     let file = checking.input.file.now in
-    let both = c.args.both.now in
+    let both = c.args.searched.now in
     comes_as c.check_kept.ensures (λ answer found.
     searched_lost checking both (recovery_gaps c.in-Ok.recovery) answer c.requires.search
     (λ all are. c.in-Ok.ensures.gaps all are)

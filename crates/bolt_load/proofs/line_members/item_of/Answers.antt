@@ -8,10 +8,10 @@ use Rattle.bolt_load.proofs.line_members.item_of.Goals as goal
 pub split_at-requires : goal.split_at-requires
 split_at-requires c =
     value_fits c.in-Digits.digits.now c.args.bytes.now
-    (subst (λ (word : ItemWord). IsSomeAnd (word_item word) (λ told. BeginsWith (item_bytes told) c.args.bytes.now)) c.in-Digits.is c.requires)
+    (subst (λ (word : ItemWord). IsSomeAnd (word_item word) (λ said. BeginsWith (item_bytes said) c.args.bytes.now)) c.in-Digits.is c.requires)
 
 pub returns-in-Digits-clause-item : goal.returns-in-Digits-clause-item
 returns-in-Digits-clause-item c =
     value_is c.in-Digits.digits.now c.args.bytes.now
-    (subst (λ (word : ItemWord). IsSomeAnd (word_item word) (λ told. BeginsWith (item_bytes told) c.args.bytes.now)) c.in-Digits.is c.requires)
+    (subst (λ (word : ItemWord). IsSomeAnd (word_item word) (λ said. BeginsWith (item_bytes said) c.args.bytes.now)) c.in-Digits.is c.requires)
     c.split_at.result.0.now c.split_at.ensures.front ∙ sym (ap word_item c.in-Digits.is)

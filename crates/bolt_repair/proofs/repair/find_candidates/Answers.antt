@@ -14,14 +14,14 @@ returns-then-is_nothing c =
     let found = c.in_ok-unreached.unreached.items in
     IfOk-weaker c.candidates_of.result _ _
     (λ candidates are.
-    searched_anyway c.args.both.now c.args.search found (map entry_of candidates.items) c.if-search.true c.in_ok-unreached.ensures.found
+    searched_anyway c.args.searched.now c.args.search found (map entry_of candidates.items) c.if-search.true c.in_ok-unreached.ensures.found
     c.in_ok-unreached.ensures.views
     (subst (λ (pages : List FoundPage). AreCandidates (found_elements pages) (map entry_of candidates.items)) c.as_slice.ensures.value are))
     c.candidates_of.ensures
 
 pub returns : goal.returns
 returns c =
-    let both = c.args.both.now in
+    let both = c.args.searched.now in
     let some : c.args.search ≡ true → is_nothing (all_lost both) ≡ false = λ asked. elim c.else-search.branch [
       | else-search-via-then-search+else-is_nothing w ↦ sym (ap is_nothing w.lost.ensures) ∙ sym w.is_nothing.ensures ∙ w.if-is_nothing.false
       | else-search-via-else-search w ↦ absurd (false≢true (sym w.if-search.false ∙ asked))

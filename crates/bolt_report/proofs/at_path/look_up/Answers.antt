@@ -13,7 +13,7 @@ members-init g c = search (rules, length-map, list_any)
 pub members-preserved : goal.members-preserved
 members-preserved g c =
     let path = path_of c.args.path.now in
-    let parents = path_of c.parents_of-parents.result.now in
+    let parents = path_of c.path_above-parents.result.now in
     let m : Member = (g.M.Members.last_path c.next.new.self, item_view c.in-Some.item) in
     let now = c.members.has_bucket || c.is_bucket_at-has_bucket.result in
     let is : now ≡ (c.members.has_bucket || is_bucket_at parents m) =
@@ -47,5 +47,5 @@ returns-clause-held g c = λ whole lists.
     record {
       value = IfSome_then c.members.value c.members.invariant.value (λ value held. held whole lists);
       none = if_none c.members.value (λ left value has. contains_none _ (rw none.0 at (left whole lists value has))) c.members.invariant.none;
-      bucket = sym (rw c.parents_of-parents.ensures at bucket ∙ or-false c.members.has_bucket);
+      bucket = sym (rw c.path_above-parents.ensures at bucket ∙ or-false c.members.has_bucket);
     }

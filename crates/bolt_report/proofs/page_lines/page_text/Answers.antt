@@ -11,5 +11,5 @@ shown : {A : Type 0} {found : Option PageFault} (result : Result A ReportFault) 
 shown (Ok x) same is other = absurd is
 shown (Err r) same is other = (λ e. cc, λ e. cc)
 
-pub returns-in_err-put_page-clause-page : goal.returns-in_err-put_page-clause-page
-returns-in_err-put_page-clause-page g c = shown _ c.in_ok-found.ensures.fault c.from_residual-in_err-put_page.ensures.1
+pub returns-in_err-put-clause-page : goal.returns-in_err-put-clause-page
+returns-in_err-put-clause-page g c = shown _ c.in_ok-found.ensures.fault c.from_residual-in_err-put.ensures.1

@@ -1,9 +1,9 @@
 use Rattle.std.proofs.Common.{map}
-use Rattle.bolt_etcd.specs.Wire.Others.{shown_other}
+use Rattle.bolt_etcd.specs.Wire.UnreadEntries.{shown_unread}
 use Rattle.bolt_report.specs.UnreadLines.{unread_line}
 use Rattle.bolt_text.proofs.Exports.{WroteLines}
 use Rattle.bolt_report.proofs.unread_lines.put_unread.Given as goal
 
 -- the lines of those before this one were written
 abbrev pub invariant-loop-other : goal.invariant-loop-other
-invariant-loop-other g l = WroteLines g.S.Sink l.initial.sink l.sink unread_line (map shown_other l.others) l.other-index
+invariant-loop-other g l = WroteLines g.S.Sink l.initial.sink l.sink unread_line (map shown_unread l.others) l.other-index

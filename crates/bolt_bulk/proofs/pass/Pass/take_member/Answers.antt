@@ -2,8 +2,7 @@
 use Rattle.std.proofs.Common.{◌≤◌, ◌≡◌, ◌-◌, ◌∷◌, [], Bor, ℕ, suc, List, ap, get_or, length, refl, arith}
 use Rattle.std.proofs.lemmas.List.{length-map}
 use Rattle.bolt_tree.specs.Entries as entries
-use Rattle.bolt_tree.specs.{Paths.Path, Paths.path_of, ShownEntries.item_view}
-use Rattle.bolt_bulk.specs.Private.{last_part}
+use Rattle.bolt_tree.specs.{Paths.Path, Paths.last_key, Paths.path_of, ShownEntries.item_view}
 use Rattle.bolt_bulk.proofs.{PassAt.steps_map, PassAt.steps_stop, PassAt.steps_then, PassEnds.has_next, PassLeft.left_same}
 use Rattle.bolt_bulk.proofs.pass.Pass.take_member.Goals as goal
 
@@ -11,7 +10,7 @@ abbrev key_of : List (Bor (List ℕ)) → Bor (List ℕ)
 key_of parts = get_or parts (length parts - 1) (record { ref_ptr = (0, 0); now = [] })
 
 -- the last part of the path is the key
-last_is : (parts : List (Bor (List ℕ))) → 1 ≤ length parts → last_part (path_of parts) ≡ (key_of parts).now
+last_is : (parts : List (Bor (List ℕ))) → 1 ≤ length parts → last_key (path_of parts) ≡ (key_of parts).now
 last_is [] some = absurd (omega arith)
 last_is (x ∷ []) some = refl
 last_is (x ∷ y ∷ parts) some =
@@ -19,7 +18,7 @@ last_is (x ∷ y ∷ parts) some =
     rw n (last_is (y ∷ parts) (omega arith))
 
 -- which is no longer than the format allows
-key_fits : (parts : List (Bor (List ℕ))) → 1 ≤ length (path_of parts) → length (last_part (path_of parts)) ≤ 1073741824
+key_fits : (parts : List (Bor (List ℕ))) → 1 ≤ length (path_of parts) → length (last_key (path_of parts)) ≤ 1073741824
     → length (key_of parts).now ≤ 1073741824
 key_fits parts some fits =
     let l = length-map parts (λ (part : Bor (List ℕ)). part.now) in

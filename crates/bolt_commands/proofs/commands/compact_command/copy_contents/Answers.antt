@@ -57,7 +57,7 @@ returns-in_ok-copied-in-Recovered-clause-read g c =
 
 pub returns-in-Searched-clause-read : goal.returns-in-Searched-clause-read
 returns-in-Searched-clause-read g c =
-    let both = c.in-Searched.both in
+    let both = c.in-Searched.searched in
     let to = rw c.in-Searched.is at c.requires in
     let asked = rw (c.meta.ensures, c.in-Searched.is) at c.blueprint_of-blueprint.ensures in
     rw c.in-Searched.is (elim c.copy_joined.ensures [

@@ -10,7 +10,7 @@ pub returns-in_err-copied : goal.returns-in_err-copied
 returns-in_err-copied g c =
     let joins = c.in_ok-joined.ensures.joined in
     let searched = c.requires in
-    let (own, is) = c.each_file_has_a_joined_listing.ensures c.args.input.file.now c.args.both.now.meta in
+    let (own, is) = c.each_file_has_a_joined_listing.ensures c.args.input.file.now c.args.searched.now.meta in
     let copy = c.in_err-copied.ensures.copied own (rw (joins.file, joins.meta, searched.bytes) is) in
     inl (own, salvaged searched joins own is, (Err _, copy, ends_as _ _ c.from_residual-in_err-copied.ensures.1))
 
@@ -18,6 +18,6 @@ pub returns : goal.returns
 returns g c =
     let joins = c.in_ok-joined.ensures.joined in
     let searched = c.requires in
-    let (own, is) = c.each_file_has_a_joined_listing.ensures c.args.input.file.now c.args.both.now.meta in
+    let (own, is) = c.each_file_has_a_joined_listing.ensures c.args.input.file.now c.args.searched.now.meta in
     let copy = c.in_ok-copied.ensures.copied own (rw (joins.file, joins.meta, searched.bytes) is) in
     inl (own, salvaged searched joins own is, (Ok _, copy, refl))

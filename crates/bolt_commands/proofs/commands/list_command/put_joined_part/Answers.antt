@@ -9,8 +9,8 @@ returns-in_err-put_members_part g c =
     let j = c.in_ok-joined.joined in
     let joins = c.in_ok-joined.ensures.joined in
     let put = c.in_err-put_members_part.ensures in
-    let (own, is) = c.each_file_has_a_joined_listing.ensures c.args.input.file.now c.args.both.now.meta in
-    let here : IsJoined c.args.both.now.file.now c.args.both.now.meta own = rw c.requires.bytes is in
+    let (own, is) = c.each_file_has_a_joined_listing.ensures c.args.input.file.now c.args.searched.now.meta in
+    let here : IsJoined c.args.searched.now.file.now c.args.searched.now.meta own = rw c.requires.bytes is in
     let there : IsJoined (joined_file j) (joined_meta j) own = rw (joins.file, joins.meta) here in
     let puts =
     members_put c.args.job.now own (IsJoined (joined_file j) (joined_meta j)) (joined_left j) there (joins.all own here)
@@ -23,8 +23,8 @@ returns g c =
     let j = c.in_ok-joined.joined in
     let joins = c.in_ok-joined.ensures.joined in
     let put = c.in_ok-put_members_part.ensures in
-    let (own, is) = c.each_file_has_a_joined_listing.ensures c.args.input.file.now c.args.both.now.meta in
-    let here : IsJoined c.args.both.now.file.now c.args.both.now.meta own = rw c.requires.bytes is in
+    let (own, is) = c.each_file_has_a_joined_listing.ensures c.args.input.file.now c.args.searched.now.meta in
+    let here : IsJoined c.args.searched.now.file.now c.args.searched.now.meta own = rw c.requires.bytes is in
     let there : IsJoined (joined_file j) (joined_meta j) own = rw (joins.file, joins.meta) here in
     let puts =
     members_put c.args.job.now own (IsJoined (joined_file j) (joined_meta j)) (joined_left j) there (joins.all own here)

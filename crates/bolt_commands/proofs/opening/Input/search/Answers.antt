@@ -11,8 +11,8 @@ returns-in_err-meta-clause-refused c =
 pub under-requires : goal.under-requires
 under-requires c = some_page_size c.args.self.file.now c.args.choice c.in_ok-meta.meta c.in_ok-meta.ensures.found
 
-pub returns-in_err-both-clause-refused : goal.returns-in_err-both-clause-refused
-returns-in_err-both-clause-refused c = rw (ends_as _ failure.Memory c.from_residual-in_err-both.ensures.1) (inr (_, c.in_ok-meta.ensures.found, refl))
+pub returns-in_err-searched-clause-refused : goal.returns-in_err-searched-clause-refused
+returns-in_err-searched-clause-refused c = rw (ends_as _ failure.Memory c.from_residual-in_err-searched.ensures.1) (inr (_, c.in_ok-meta.ensures.found, refl))
 
 pub returns-clause-searched : goal.returns-clause-searched
 returns-clause-searched c = grind (arith, common_steps)

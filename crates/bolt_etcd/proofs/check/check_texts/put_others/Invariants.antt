@@ -1,5 +1,5 @@
 use Rattle.std.proofs.Common.{◌≡◌, map}
-use Rattle.bolt_etcd.specs.{Check.CheckLines.other_line, Wire.Others.others_of, Store.RevisionsLeft.ForPass, Store.RevisionsLeft.ahead_of}
+use Rattle.bolt_etcd.specs.{Check.CheckLines.other_line, Wire.UnreadEntries.others_of, Store.RevisionsLeft.ForPass, Store.RevisionsLeft.ahead_of}
 use Rattle.bolt_etcd.specs.{Store.RevisionsLeft.number_ahead, Store.RevisionsLeft.pass_checked, Store.RevisionsLeft.pass_start}
 use Rattle.bolt_etcd.proofs.ListedTexts.{Listed}
 use Rattle.bolt_etcd.proofs.check.check_texts.put_others.Given as goal

@@ -3,17 +3,17 @@ use Rattle.std.proofs.lemmas.Result.{IfOk-weaker}
 use Rattle.std.specs.List.{concat}
 use Rattle.bolt_check.specs.Counts.{counted}
 use Rattle.bolt_format.proofs.Exports.{Wrote-none, Wrote-same}
-use Rattle.bolt_etcd.specs.{Check.CheckLines.other_line, Wire.Others.OtherView, Wire.Others.others_of, Store.RevisionsLeft.ahead_of}
+use Rattle.bolt_etcd.specs.{Check.CheckLines.other_line, Wire.UnreadEntries.UnreadView, Wire.UnreadEntries.others_of, Store.RevisionsLeft.ahead_of}
 use Rattle.bolt_etcd.proofs.{OtherCounts.no_others, RevisionSteps.over_all}
 use Rattle.bolt_etcd.proofs.check.store_faults.put_counted_others.Goals as goal
 
 pub returns-in-0-clause-written : goal.returns-in-0-clause-written
 returns-in-0-clause-written g c = λ entries are counts.
-    Wrote-same (ap (λ (os : List OtherView). concat (map other_line os)) (sym (no_others entries c.args.number c.in-0.is counts))) (Wrote-none c.args.sink.now)
+    Wrote-same (ap (λ (os : List UnreadView). concat (map other_line os)) (sym (no_others entries c.args.number c.in-0.is counts))) (Wrote-none c.args.sink.now)
 
 pub returns-in-0-clause-number : goal.returns-in-0-clause-number
 returns-in-0-clause-number g c = λ entries are counts.
-    ap (λ (os : List OtherView). counted 0 (length (map other_line os))) (sym (no_others entries c.args.number c.in-0.is counts))
+    ap (λ (os : List UnreadView). counted 0 (length (map other_line os))) (sym (no_others entries c.args.number c.in-0.is counts))
 
 pub returns-in_default-clause-number : goal.returns-in_default-clause-number
 returns-in_default-clause-number g c = IfOk-weaker c.put_others.result _ _

@@ -4,7 +4,7 @@ use Rattle.bolt_lemmas.proofs.Exports.{concat_three}
 use Rattle.bolt_check.specs.Counts.{counted}
 use Rattle.bolt_format.proofs.Exports.{Wrote-ends, Wrote-return, Wrote-same, Wrote-then, broken_by}
 use Rattle.bolt_etcd.specs.{Check.CheckLines.misplaced_line, Check.CheckLines.missing_line, Check.CheckLines.other_line, Check.Misplaced.misplaced}
-use Rattle.bolt_etcd.specs.{Wire.Numbered.numbered, Wire.Others.others_of, Wire.Revisions.RevisionView}
+use Rattle.bolt_etcd.specs.{Wire.Numbered.numbered, Wire.UnreadEntries.others_of, Wire.Revisions.RevisionView}
 use Rattle.bolt_etcd.specs.{Wire.ShownRevisions.shown_revision, Check.StoreFaults.missing_if, Store.Stores.revisions}
 use Rattle.bolt_etcd.proofs.ListedTexts.{counted_three}
 use Rattle.bolt_etcd.proofs.check.store_faults.put_entry_faults.Goals as goal

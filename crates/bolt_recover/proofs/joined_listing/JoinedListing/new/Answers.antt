@@ -7,7 +7,7 @@ use Rattle.bolt_recover.proofs.joined_listing.JoinedListing.new.Goals as goal
 
 pub invariant_of-result-clause-reads : goal.invariant_of-result-clause-reads
 invariant_of-result-clause-reads c =
-    let both = c.args.both.now in
+    let both = c.args.searched.now in
     let kept = c.in_ok-kept.ensures in
     ∣ c.new-2.ensures.reads _ _ (rw (kept.file, kept.meta) (recovers both.file.now both.meta)) (ap found_listing (sym c.new.ensures.found)) ∣₁
 
@@ -17,7 +17,7 @@ invariant_of-result-clause-pages c = grind (arith, joinable, c.in_ok-test_join.e
 pub returns-clause-all : goal.returns-clause-all
 unfolding joined_left
 returns-clause-all c = λ listing is.
-    let both = c.args.both.now in
+    let both = c.args.searched.now in
     let test = c.in_ok-test_join.ensures in
     let found = c.as_slice-found.result.now in
     ∥∥₁_elim (joinable both found c.as_slice-found.ensures.value test.few test.apart) (hlevel props) (λ are.

@@ -1,12 +1,13 @@
 -- Something is lost, since the trees aren't sound.
 use Rattle.std.proofs.Common.{◌≡◌, ◌∙◌, List, true, subst₂, ℕ}
-use Rattle.bolt_recover.proofs.Words.{All, FoundBelow, is_taken, IsFoundView, Meta, found_numbers, recovery_claimed, recovery_file, recovery_gaps}
-use Rattle.bolt_recover.proofs.Words.{recovery_losses, recovery_meta}
+use Rattle.bolt_recover.proofs.Words.{All, FoundBelow, is_taken, IsFoundView, Meta, found_numbers, recovery_claimed, recovery_file}
+use Rattle.bolt_recover.proofs.Words.{recovery_meta}
 use Rattle.bolt_recover.proofs.FoundAll.{found_damaged}
+use Rattle.bolt_recover.specs.Recoveries.{recovery_viewers}
 use Rattle.bolt_recover.proofs.recovery.Recovery.found.Goals as goal
 
 pub returns : goal.returns
-unfolding recovery_claimed recovery_file recovery_gaps recovery_losses recovery_meta
+unfolding recovery_viewers
 returns c =
     let self = c.look_through.new.self in
     let rest = c.new.result in

@@ -2,10 +2,11 @@
 use Rattle.std.proofs.Common.{◌≡◌, ◌∙◌, List, true, subst₂, ℕ}
 use Rattle.bolt_recover.proofs.Words.{FoundBelow, IfOk-weaker, is_taken, Meta, found_numbers, recovery_claimed, recovery_file, recovery_meta}
 use Rattle.bolt_recover.proofs.FoundAll.{found_anyway}
+use Rattle.bolt_recover.specs.Recoveries.{recovery_viewers}
 use Rattle.bolt_recover.proofs.recovery.Recovery.unreached.Goals as goal
 
 pub returns-clause-found : goal.returns-clause-found
-unfolding recovery_claimed recovery_file recovery_meta
+unfolding recovery_viewers
 returns-clause-found c =
     let self = c.look_through.new.self in
     let rest = c.new.result in

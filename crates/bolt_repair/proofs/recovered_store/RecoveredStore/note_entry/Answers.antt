@@ -2,7 +2,7 @@
 use Rattle.std.proofs.Common.{Bor, List, [], Some, ap, map, refl, sym, ◌∙◌, ◌∷◌, ◌++◌, ℕ}
 use Rattle.std.proofs.{lemmas.Bool.false≢true, lemmas.List.map-append, lemmas.Result.on_ok_weaker}
 use Rattle.bolt_tree.specs.ShownEntries.{shown_entry}
-use Rattle.bolt_etcd.specs.{Wire.Others.shown_other}
+use Rattle.bolt_etcd.specs.{Wire.UnreadEntries.shown_unread}
 use Rattle.bolt_repair.specs.Repairs.{store_path}
 use Rattle.bolt_repair.proofs.NotedMembers.{key_not_wanted, key_noted}
 use Rattle.bolt_repair.proofs.{ReadableLemmas.noted_readable, ReadableLemmas.noted_unread, ReadableLemmas.readable_after, ReadablePaths.entry_no_meta}
@@ -12,10 +12,10 @@ use Rattle.bolt_repair.proofs.recovered_store.RecoveredStore.note_entry.Goals as
 pub returns-in-Some : goal.returns-in-Some
 returns-in-Some c =
     let e = shown_entry c.args.entry.now in
-    let (reads, this) = unread_entry e (shown_other c.in-Some.other) (sym c.in-Some.ensures) in
+    let (reads, this) = unread_entry e (shown_unread c.in-Some.other) (sym c.in-Some.ensures) in
     on_ok_weaker c.add_other.result (λ more before after s.
-    noted_unread before (store_path ++ e.key ∷ []) e.item _ _ _ s (Some (shown_other c.in-Some.other)) reads this (entry_no_meta _ e.key refl)
-    (ap (map shown_other) more ∙ map-append shown_other c.args.self.now.unread.items (c.in-Some.other ∷ [])) refl (λ t. t)) c.add_other.ensures
+    noted_unread before (store_path ++ e.key ∷ []) e.item _ _ _ s (Some (shown_unread c.in-Some.other)) reads this (entry_no_meta _ e.key refl)
+    (ap (map shown_unread) more ∙ map-append shown_unread c.args.self.now.unread.items (c.in-Some.other ∷ [])) refl (λ t. t)) c.add_other.ensures
 
 pub returns-in_ok-add_key : goal.returns-in_ok-add_key
 returns-in_ok-add_key c = λ before after s.

@@ -2,7 +2,7 @@ use Rattle.std.proofs.Common.{Bor, List, [], ap, map, subst, sym, ◌++◌, ◌�
 use Rattle.bolt_lemmas.proofs.Exports.{contains_none}
 use Rattle.bolt_tree.specs.{Listing.Member, Paths.path_of, ShownEntries.item_view}
 use Rattle.bolt_etcd.specs.{Wire.ShownRevisions.entry_of, Wire.ShownRevisions.shown_revision, declared.wire.revision.Revision.Revision}
-use Rattle.bolt_etcd.specs.Wire.Others.{shown_other}
+use Rattle.bolt_etcd.specs.Wire.UnreadEntries.{shown_unread}
 use Rattle.bolt_repair.specs.Repairs.{meta_path}
 use Rattle.bolt_repair.specs.RecoveredStores.{IsRecoveredStore, IsStoreNoted}
 use Rattle.bolt_repair.proofs.NotedMembers.{next_member, no_more, no_members_noted}
@@ -23,7 +23,7 @@ members-init c =
               (sym c.new.ensures.items)
               (subst (λ (rs : List Revision). IsRecoveredStore [] candidates None None (map shown_revision rs) []) (sym c.in_ok-room.ensures.items)
               (no_members_noted candidates));
-          unread = ap (map shown_other) c.new-2.ensures.items;
+          unread = ap (map shown_unread) c.new-2.ensures.items;
           meta = (λ e. absurd (cc), λ (item, has). absurd (contains_none (meta_path, item) has));
         },
       );

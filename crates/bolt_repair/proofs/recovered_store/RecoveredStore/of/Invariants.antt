@@ -9,8 +9,8 @@ use Rattle.bolt_repair.proofs.recovered_store.RecoveredStore.of.Given as goal
 -- the members so far, which the store is of, and those that are left are all
 abbrev pub invariant-members : goal.invariant-members
 invariant-members l = record {
-  reads : ForRecovered l.both.file.now l.both.meta (λ listing. IsRecovered (kept_file l.kept) (kept_meta l.kept) listing);
-  noted : ForRecovered l.both.file.now l.both.meta (λ listing.
+  reads : ForRecovered l.searched.file.now l.searched.meta (λ listing. IsRecovered (kept_file l.kept) (kept_meta l.kept) listing);
+  noted : ForRecovered l.searched.file.now l.searched.meta (λ listing.
       (before : List Member) × (before ++ kept_left l.kept listing ≡ listing) × IsStoreNoted before (map entry_of l.candidates) l.store);
 }
 

@@ -17,7 +17,7 @@ invariant_of-result c =
     record {
       reads = ∣
           c.new-4.ensures.reads _ _
-          (c.new-3.ensures.reads _ _ (rw (kept.file, kept.meta) (c.the_recovered_listing_is_recovered.ensures repair.both.now.file.now repair.both.now.meta))
+          (c.new-3.ensures.reads _ _ (rw (kept.file, kept.meta) (c.the_recovered_listing_is_recovered.ensures repair.searched.now.file.now repair.searched.now.meta))
           (sym (c.in_ok-back.ensures.listing ∙ same)))
           (sym c.in_ok-meta.ensures.listing)
           ∣₁;
@@ -27,8 +27,8 @@ pub returns-clause-all : goal.returns-clause-all
 unfolding repaired_left
 returns-clause-all c = λ listing is.
     let repair = c.args.repair.now in
-    let file = repair.both.now.file.now in
-    let meta = repair.both.now.meta in
+    let file = repair.searched.now.file.now in
+    let meta = repair.searched.now.meta in
     let recovered = c.the_recovered_listing_is_recovered.ensures file meta in
     let same = ap (λ (entries : List Revision). members_in repair.is_made store_path (map entry_of entries)) c.as_slice.ensures.value in
     let stripped = strip_listing _ recovered.rises (parents_of _ (c.recovered_listing_is_of_a_tree.ensures file meta _ recovered)) in

@@ -1,10 +1,11 @@
 use Rattle.std.proofs.Common.{List, Some, subst, sym}
 use Rattle.bolt_tree.proofs.{Standing.entry_on, Standing.top_rests, Standing.topped, RestingLemmas.resting_rest, RestingLemmas.resting_stack}
-use Rattle.bolt_tree.proofs.Words.{Frame, IsOn, cursor_checked, cursor_place, cursor_start, cursor_trail, leaf_view}
+use Rattle.bolt_tree.proofs.Words.{Frame, IsOn, cursor_trail, leaf_view}
+use Rattle.bolt_tree.specs.Cursors.{cursor_viewers}
 use Rattle.bolt_tree.proofs.cursor.Cursor.element.Goals as goal
 
 pub returns-clause-entry : goal.returns-clause-entry
-unfolding cursor_checked cursor_place cursor_start
+unfolding cursor_viewers
 returns-clause-entry c =
     let was = c.args.self.now in
     let at =

@@ -1,14 +1,15 @@
 use Rattle.std.proofs.Common.{refl}
-use Rattle.bolt_tree.proofs.Words.{cursor_checked, cursor_place, cursor_start}
+use Rattle.bolt_tree.proofs.Words.{cursor_place}
 use Rattle.bolt_tree.proofs.RestingLemmas.{moves_last, not_past_resting, not_past_still, shows_by}
 use Rattle.bolt_tree.specs.Places.{to_last}
+use Rattle.bolt_tree.specs.Cursors.{cursor_viewers}
 use Rattle.bolt_tree.proofs.cursor.Cursor.last.Goals as goal
 
 pub invariant_of-self : goal.invariant_of-self
 invariant_of-self c = record { resting = not_past_resting _ _ c.args.self.now.resting }
 
 pub returns-clause-moves : goal.returns-clause-moves
-unfolding cursor_checked cursor_place cursor_start
+unfolding cursor_viewers
 returns-clause-moves c = shows_by _ _ to_last (cursor_place c.args.self.now) _ _ _ c.entry_of.ensures.entry
     (rw (not_past_still _ _ c.start.result c.start.ensures.past refl)
     (moves_last _ _ c.start.ensures.moved _ c.args.self.now.resting c.start.result (cursor_place c.args.self.now) c.start.ensures.found))

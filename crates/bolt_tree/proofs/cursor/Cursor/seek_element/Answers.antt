@@ -2,13 +2,13 @@
 use Rattle.std.proofs.Common.{◌≡◌, [], ◌∙◌, ◌+◌, ◌-◌, ℕ, Bool, Option, None, false, length, List, not, sym, ap, arith, refl}
 use Rattle.std.proofs.Math.Bool.{not-not}
 use Rattle.bolt_tree.proofs.Words.{BucketView, Contents, Finds, Frame, HasStack, IsMoved, IsNearTop, IsSought, Key, Leaf, LeafElement, Past, ahead_of}
-use Rattle.bolt_tree.proofs.Words.{contents_in, counted, cursor_checked, cursor_opened, cursor_place, cursor_start, cursor_trail, elements_in}
+use Rattle.bolt_tree.proofs.Words.{contents_in, counted, cursor_place, cursor_trail, elements_in}
 use Rattle.bolt_tree.proofs.Words.{frames_of, later_of, pager_opened, pages_bucket, place_by, start_at, trail_on}
 use Rattle.bolt_tree.proofs.{PagerLemmas.counted_more, OpeningMoves.leaf_nonempty, OpeningMoves.seek_bounds, OpeningMoves.seek_opens}
 use Rattle.bolt_tree.proofs.{RestingLemmas.moves_seek, RestingLemmas.resting_bucket}
 use Rattle.bolt_tree.proofs.TrailLemmas.{same_bucket}
 use Rattle.std.specs.Option.{is_some}
-use Rattle.bolt_tree.specs.Cursors.{cursor_compared}
+use Rattle.bolt_tree.specs.Cursors.{cursor_viewers}
 use Rattle.bolt_tree.proofs.cursor.Cursor.seek_element.Goals as goal
 
 -- the bucket stays the same: as the root page is opened, on the way down, and as the stack moves forward
@@ -44,7 +44,7 @@ past : (contents : Contents) (frames : List Frame) (found : Option Leaf) (none :
 past contents frames found none e h = grind arith
 
 pub returns : goal.returns
-unfolding cursor_checked cursor_compared cursor_opened cursor_place cursor_start
+unfolding cursor_viewers
 returns c =
     let was = c.args.self.now in
     let bucket = pages_bucket was.pages in

@@ -2,12 +2,12 @@ use Rattle.std.proofs.Common.{sym, ◌∙◌}
 use Rattle.std.specs.Option.{option_map}
 use Rattle.bolt_tree.specs.{Cursors.cursor_place, ShownEntries.shown_entry}
 use Rattle.bolt_etcd.proofs.Passing.{next_shows, seek_shows}
-use Rattle.bolt_etcd.specs.Store.RevisionsLeft.{ahead_of, pass_checked, pass_start}
+use Rattle.bolt_etcd.specs.Store.RevisionsLeft.{pass_viewers}
 use Rattle.bolt_etcd.proofs.store.revisions.Revisions.advance.Goals as goal
 use Rattle.bolt_tree.proofs.Exports.{nothing_shown}
 
 pub returns-in-Some-clause-first : goal.returns-in-Some-clause-first
-unfolding ahead_of pass_checked pass_start
+unfolding pass_viewers
 returns-in-Some-clause-first c = λ entries are.
     let from = sym c.take.ensures.value ∙ c.in-Some.is in
     rw (from, c.take.ensures.after)
@@ -15,7 +15,7 @@ returns-in-Some-clause-first c = λ entries are.
     (λ none. c.seek.ensures.none (nothing_shown c.seek.result none)))
 
 pub returns-in-None-clause-first : goal.returns-in-None-clause-first
-unfolding ahead_of pass_checked pass_start
+unfolding pass_viewers
 returns-in-None-clause-first c = λ entries are.
     let from = sym c.take.ensures.value ∙ c.in-None.is in
     rw (from, c.take.ensures.after)

@@ -6,7 +6,7 @@ ghost use Rattle.bolt_job.specs.PlainWords.{etcd_check_of, etcd_get_of, etcd_key
 ghost use Rattle.bolt_job.specs.Private.CommandLines.{values_of};
 
 use crate::bucket_commands::{FORM, NO_NEWLINE};
-use crate::choices::{MetaChoice, PageSize};
+use crate::choices::{CopyKind, MetaChoice, PageSize};
 use crate::command_line::{Argument, Flag, Syntax};
 use crate::line::Line;
 use crate::page_commands::{ASSUME_META, FIGURE_FORM, META};
@@ -291,8 +291,8 @@ pub struct EtcdRepairJob {
     pub target: String,
     /// The page size of the copy. Without one it is that of the file.
     pub page_size: Option<PageSize>,
-    /// Whether the copy ends with its hash.
-    pub snapshot: bool,
+    /// What the copy is for: etcd writes to it, or restores it. `etcd-repair` asks for `ForBbolt` or `EtcdSnapshot`.
+    pub kind: CopyKind,
     /// Whether to look for revisions even if nothing is lost.
     pub search: bool,
 }
@@ -320,7 +320,7 @@ pub(crate) fn read_etcd_repair(line: &Line<'_, '_>) -> Result<EtcdRepairJob, Ref
     Ok(EtcdRepairJob {
         meta: line.meta()?,
         page_size: line.page_size()?,
-        snapshot: line.is_given("etcd-snapshot"),
+        kind: line.repair_kind(),
         search: line.is_given("search"),
         target: line.text("output")?,
         file: line.text("FILE")?,

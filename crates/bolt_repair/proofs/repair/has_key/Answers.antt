@@ -3,7 +3,7 @@ use Rattle.std.proofs.lemmas.Fn.{always_returns_same}
 use Rattle.bolt_lemmas.proofs.Exports.{sorted_by_shown}
 use Rattle.bolt_check.specs.Keys.{key_cmp}
 use Rattle.bolt_repair.proofs.KeySearches.{found_key}
-use Rattle.bolt_repair.proofs.candidates.has_key.Goals as goal
+use Rattle.bolt_repair.proofs.repair.has_key.Goals as goal
 
 pub returns : goal.returns
 returns c =

@@ -1,4 +1,4 @@
--- What the missing numbers tell: exactly the transactions that aren't there, of those after a compaction and before the last one.
+-- What the missing numbers report: exactly the transactions that aren't there, of those after a compaction and before the last one.
 use Rattle.std.specs.Prelude.{◌≢◌, ◌<◌, ◌≤◌, ◌⊎◌, ℕ, List, [], ◌∷◌, max}
 use Rattle.std.specs.{List.Contains, declared.cmp.Ordering.Ordering}
 use Rattle.bolt_etcd.specs.{Wire.RevisionKeys.numbers_cmp, Wire.Revisions.RevisionView, declared.check.missing.Missing.Missing}
@@ -7,14 +7,14 @@ use Rattle.bolt_etcd.specs.declared.check.missing.Missing.TheVariants.{Revisions
 abbrev pub number_cmp : RevisionView → RevisionView → Ordering
 number_cmp a b = numbers_cmp a.key b.key
 
-abbrev pub Tells : ℕ → Missing → Type 0
-Tells t (Transactions first last) = (first ≤ t) × (t ≤ last)
-Tells t (Revisions main first last) = ⊥
+abbrev pub Reports : ℕ → Missing → Type 0
+Reports t (Transactions first last) = (first ≤ t) × (t ≤ last)
+Reports t (Revisions main first last) = ⊥
 
--- one of the missing numbers tells that a transaction is missing
-abbrev pub IsTold : ℕ → List Missing → Type 0
-IsTold t [] = ⊥
-IsTold t (m ∷ ms) = Tells t m ⊎ IsTold t ms
+-- one of the missing numbers reports that a transaction is missing
+abbrev pub IsReported : ℕ → List Missing → Type 0
+IsReported t [] = ⊥
+IsReported t (m ∷ ms) = Reports t m ⊎ IsReported t ms
 
 -- no revision of the list is of this transaction
 abbrev pub HasNoneOf : ℕ → List RevisionView → Type 0

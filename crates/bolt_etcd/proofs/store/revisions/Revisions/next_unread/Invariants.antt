@@ -1,7 +1,7 @@
-use Rattle.bolt_etcd.specs.{Wire.Others.other_of, Store.RevisionsLeft.number_ahead, Store.RevisionsLeft.pass_others}
+use Rattle.bolt_etcd.specs.{Wire.UnreadEntries.other_of, Store.RevisionsLeft.number_ahead, Store.RevisionsLeft.pass_others}
 use Rattle.std.proofs.Common.{◌≡◌}
 use Rattle.bolt_etcd.proofs.PassSteps.{GoesBy}
-use Rattle.bolt_etcd.proofs.store.revisions.Revisions.next_other.Given as goal
+use Rattle.bolt_etcd.proofs.store.revisions.Revisions.next_unread.Given as goal
 
 abbrev pub invariant-rest : goal.invariant-rest
 invariant-rest l = record {

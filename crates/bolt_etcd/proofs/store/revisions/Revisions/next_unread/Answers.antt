@@ -2,11 +2,11 @@ use Rattle.std.proofs.Common.{Option, Some, ap, arith, sym, ◌∙◌, ◌<◌}
 use Rattle.std.specs.Option.{option_map}
 use Rattle.bolt_lemmas.proofs.Exports.{if_given}
 use Rattle.bolt_tree.specs.ShownEntries.{shown_entry}
-use Rattle.bolt_etcd.specs.{Wire.Others.GivesOther, Wire.Others.OtherView, Wire.Others.other_of, Store.RevisionsLeft.ahead_of}
+use Rattle.bolt_etcd.specs.{Wire.UnreadEntries.GivesOther, Wire.UnreadEntries.UnreadView, Wire.UnreadEntries.other_of, Store.RevisionsLeft.ahead_of}
 use Rattle.bolt_etcd.specs.{Store.RevisionsLeft.number_ahead}
 use Rattle.bolt_etcd.proofs.{OtherSteps.none_other, OtherSteps.some_other, PassSteps.goes_by_one, PassSteps.one_shown}
 use Rattle.bolt_etcd.proofs.RevisionSteps.{goes_none, number_falls}
-use Rattle.bolt_etcd.proofs.store.revisions.Revisions.next_other.Goals as goal
+use Rattle.bolt_etcd.proofs.store.revisions.Revisions.next_unread.Goals as goal
 
 pub rest-smaller : goal.rest-smaller
 rest-smaller c =
@@ -28,7 +28,7 @@ rest-preserved c = record {
 
 pub returns-then-is_some-clause-given : goal.returns-then-is_some-clause-given
 returns-then-is_some-clause-given c = λ entries are.
-    some_other (λ (o : Option OtherView). GivesOther (ahead_of c.args.self.now entries) (ahead_of c.advance.new.self entries) o) c.of-other.result _
+    some_other (λ (o : Option UnreadView). GivesOther (ahead_of c.args.self.now entries) (ahead_of c.advance.new.self entries) o) c.of-other.result _
     (sym c.is_some.ensures ∙ c.if-is_some.true) c.of-other.ensures (λ o found.
     one_shown other_of c.args.self.now c.rest.self c.advance.new.self _ c.rest.invariant.goes c.advance.ensures.checked c.advance.ensures.start
     c.advance.ensures.first
