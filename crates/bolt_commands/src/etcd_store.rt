@@ -59,7 +59,7 @@ pub(crate) fn end_revisions(put: Result<u64, ReportFault>) -> Outcome
     end_others(put?)
 }
 
-/// How a job ends if so many entries aren't revisions.
+/// How a job ends if so many entries are neither revisions nor marks.
 pub(crate) fn end_others(others: u64) -> Outcome
     ensures { result ≡ others_ending others }
 {

@@ -73,7 +73,7 @@ impl<'f> Contents<'f> {
 }
 
 impl<'f> Input<'f> {
-    /// Opens what `check`, `list` and `compact` read of the file, to an extent, under the meta that is chosen.
+    /// Opens what `list` and `compact` read of the file, to an extent, under the meta that is chosen.
     pub(crate) fn open(self, choice: MetaChoice, extent: Extent) -> Result<Contents<'f>, Failure>
         ensures opened { IfOk result (IsOpened extent self.entry.file.now choice) }
         ensures refused { IfErr result (IsUnopened extent self.entry.file.now choice) }

@@ -106,7 +106,8 @@ impl<'a> RecoveredStore<'a> {
 }
 
 /// Room for all revisions that are recovered and for the candidates, which come to them later, if there
-/// are any. So the list never grows: while it did, it would need up to three times as much.
+/// are any. So the list doesn't grow if something is lost: while it did, it would need up to three times
+/// as much. If nothing is lost, the members weren't counted, and it grows.
 fn room_for_kept<'a>(
     alloc: Global,
     searched: &LostAndFound<'a>,

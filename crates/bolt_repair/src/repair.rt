@@ -51,8 +51,10 @@ impl<'a> Repair<'a> {
     ghost use Rattle.bolt_repair.specs.{RepairedMembers.repair_search, RepairedMerges.repair_back, RepairedMerges.repair_unread};
 
     /// Finds what goes back, and what can't be read. With `search` it looks for pages even if nothing is
-    /// lost. Goes over what is recovered once. If there are candidates, it needs 112 bytes for each of them
-    /// and 56 for each recovered member; and up to 96 bytes for each entry that can't be read.
+    /// lost. Goes over what is recovered once. If there are candidates, it needs 112 bytes for each of them,
+    /// 56 for each recovered member, and up to 48 for each candidate whose key is recovered, too. If nothing
+    /// is lost, the members weren't counted before: then it needs up to 168 for each recovered revision. It
+    /// also needs up to 96 bytes for each entry that can't be read.
     ///
     /// # Errors
     ///

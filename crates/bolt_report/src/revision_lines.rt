@@ -186,8 +186,8 @@ impl RevisionWriter {
     ghost use Rattle.bolt_report.specs.WriterLines.{lines_by};
 
     /// Writes the lines of the revisions of a pass whose names begin with `prefix`, in their order.
-    /// Returns the number of entries that it has passed over since they aren't revisions. Keeps
-    /// nothing of a revision.
+    /// Returns the number of entries that it has passed over and that are neither revisions nor marks.
+    /// Keeps nothing of a revision.
     ///
     /// # Errors
     ///
@@ -216,8 +216,8 @@ impl RevisionWriter {
 
     /// Writes the lines of the keys that there are in a bucket at a transaction and whose names begin
     /// with `prefix`, by rising name: of each its newest revision of no later transaction than
-    /// `up_to`. Returns the number of entries that aren't revisions. Keeps 56 bytes for each revision
-    /// of no later transaction.
+    /// `up_to`. Returns the number of entries that are neither revisions nor marks. Keeps 56 bytes for
+    /// each revision of no later transaction.
     ///
     /// # Errors
     ///

@@ -18,8 +18,8 @@ use crate::store::revisions::Revisions;
 use crate::wire::revision::Revision;
 use bolt_format::{Sink, SinkFault};
 
-/// Writes a line for each entry ahead of a pass that isn't a revision, and returns how many these
-/// are. The number saturates at 2^64 - 1.
+/// Writes a line for each entry ahead of a pass that is neither a revision nor a mark, and returns
+/// how many these are. The number saturates at 2^64 - 1.
 pub(crate) fn put_others<S: Sink>(mut pass: Revisions<'_>, sink: &mut S) -> Result<u64, SinkFault>
     ensures written { ForAhead pass.entry (λ entries.
         Wrote S.Sink sink.old sink.new (concat (other_lines entries)) (ending result)) }

@@ -32,7 +32,7 @@ use std::alloc::Global;
 /// these are. In this order:
 ///
 /// - buckets that are missing;
-/// - entries of the bucket `key` that aren't revisions;
+/// - entries of the bucket `key` that are neither revisions nor marks;
 /// - records of other revisions;
 /// - revisions that are missing by their numbers;
 /// - name by name, revisions that don't follow the one before them, and leases that aren't there.
@@ -144,8 +144,8 @@ fn put_entry_faults<S: Sink>(
     Ok(others.saturating_add(misplaced).saturating_add(missing))
 }
 
-/// Writes a line for each entry of the bucket `key` that isn't a revision. There are `number` of
-/// them. If there are none, it doesn't look for them.
+/// Writes a line for each entry of the bucket `key` that is neither a revision nor a mark. There are
+/// `number` of them. If there are none, it doesn't look for them.
 fn put_counted_others<S: Sink>(
     keys: &Bucket<'_>,
     number: u64,
