@@ -18,18 +18,19 @@ import sys
 import tempfile
 
 from make_large import PAGE_SIZE
-from stores import STORE_COMMANDS, STORES, count, lost_branches
+from stores import REPAIR, SEARCH, STORES, count, lost_branches
 
 SIZE = 4000
 MOST_MORE_REQUESTS = 12
 FOR_LOST_BRANCH = 10
-# How many bytes each revision takes, and each found page while the list of them grows.
-OF_REVISION = {"etcd-revisions": 0, "etcd-get": 0, "etcd-keys": 56, "etcd-check": 56, "etcd-status": 56, "etcd-repair": 112}
-OF_FOUND_PAGE = 72
+# How many bytes each further revision takes, which in the stores that are searched is recovered; and each found page while
+# the list of them grows.
+OF_REVISION = {"etcd-revisions": 0, "etcd-get": 0, "etcd-keys": 56, "etcd-check": 56, "etcd-status": 56, REPAIR: 112, SEARCH: 56}
+OF_FOUND_PAGE = {REPAIR: 72}
 # Large blocks are rounded up to pages of memory.
 SLACK = 2 * 4096
-# Of these stores no key is `none`, buckets that every store has are missing, and pages are lost.
-STATUS = {"etcd-revisions": 0, "etcd-keys": 0, "etcd-get": 1, "etcd-check": 1, "etcd-status": 0, "etcd-repair": 1}
+# Of these stores no key is `none`, buckets that every store has are missing, and pages are lost, except in those that are searched.
+STATUS = {"etcd-revisions": 0, "etcd-keys": 0, "etcd-get": 1, "etcd-check": 1, "etcd-status": 0, REPAIR: 1, SEARCH: 0}
 
 
 class Store:
@@ -55,20 +56,20 @@ class Store:
         return requests, most - self.length - self.pages, ran.returncode
 
 
-def most_bytes(words, revisions, pages):
+def most_bytes(kind, revisions, pages):
     """How many bytes so many further revisions may take, on so many further pages."""
-    name = words.split()[0]
-    return OF_REVISION[name] * revisions + OF_FOUND_PAGE * pages * (words not in STORE_COMMANDS) + SLACK
+    return OF_REVISION[kind] * revisions + OF_FOUND_PAGE.get(kind, 0) * pages + SLACK
 
 
 def is_little(words, smaller, larger, before, after):
     """Whether a command asks for little more on the larger store."""
     requests, held = after[0] - before[0], after[1] - before[1]
     revisions, pages = larger.revisions - smaller.revisions, larger.pages - smaller.pages
-    most = most_bytes(words, revisions, pages)
+    kind = words if words in OF_REVISION else words.split()[0]
+    most = most_bytes(kind, revisions, pages)
     most_requests = MOST_MORE_REQUESTS + FOR_LOST_BRANCH * (larger.lost - smaller.lost)
     print(f"{words}: {revisions} more revisions: {requests} more requests of {most_requests}, {held} more bytes of {most}")
-    is_right = before[2] == after[2] == STATUS[words.split()[0]]
+    is_right = before[2] == after[2] == STATUS[kind]
     return is_right and requests <= most_requests and -SLACK <= held <= most
 
 

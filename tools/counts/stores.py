@@ -4,7 +4,8 @@ import os
 import subprocess
 import sys
 
-from file_format import BRANCH
+from file_format import BRANCH, BRANCH_ELEMENT, HEADER
+from make_large import PAGE_SIZE
 from make_store import FIRST, compacted, puts
 from zero_leaves import pages_of
 
@@ -16,6 +17,7 @@ STORE_COMMANDS = [
     "etcd-status FILE",
 ]
 REPAIR = "etcd-repair FILE -o OUT"
+SEARCH = "etcd-repair FILE -o OUT --search"
 VALUE = 30
 # Of such values a leaf has a few alone, so that a small store has several branches.
 LONG_VALUE = 1000
@@ -59,4 +61,17 @@ def half_lost(size, path):
     run_maker("zero_leaves.py", path + ".whole", path, 0, branches_of(path + ".whole") // 2)
 
 
-STORES = {revisions: STORE_COMMANDS, candidates: [REPAIR], half_lost: [REPAIR]}
+def first_hidden(size, path):
+    """The topmost branch doesn't lead to the first one below it, whose leaves a search finds. Nothing is lost."""
+    run_maker("make_store.py", path, LONG_VALUE, size)
+    with open(path, "r+b") as file:
+        *_, top = pages_of(file, BRANCH)
+        file.seek(top * PAGE_SIZE)
+        number, flags, count, overflow = HEADER.unpack(file.read(HEADER.size))
+        # (each element says how far behind itself its key is)
+        others = file.read(PAGE_SIZE - HEADER.size)[BRANCH_ELEMENT.size :]
+        file.seek(top * PAGE_SIZE)
+        file.write(HEADER.pack(number, flags, count - 1, overflow) + others)
+
+
+STORES = {revisions: STORE_COMMANDS, candidates: [REPAIR], half_lost: [REPAIR], first_hidden: [SEARCH]}

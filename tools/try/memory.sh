@@ -16,6 +16,7 @@ app=examples/app.db
 deep=out/deep.db
 nested=out/nested.db
 damaged=out/damaged.db
+found=out/found.db
 sweep() {
 	python3 -B tools/refuse/sweep.py "$program" out/refuse.so memory "$@"
 }
@@ -33,6 +34,7 @@ sweep 1 $deep info check buckets stats
 REFUSED_CALL=memory REFUSED_NUMBER=300 LD_PRELOAD=out/refuse.so "$program" check $deep | grep -qx OK
 sweep 1500 $deep "compact -o OUT"
 with_lines recoveries.txt -- sweep 1 $damaged "check --all" "check --lost-and-found"
+sweep 1 $found "etcd-repair -o OUT"
 with_lines recoveries.txt -- sweep 1 $nested "check --all" "check --all --etcd-snapshot" "list b b --recover"
 PYTHONPATH=tests:tools/format python3 -B tools/refuse/try_calls.py "$calls" out/refuse.so \
 	tests/cases/call_again_and_between.cases

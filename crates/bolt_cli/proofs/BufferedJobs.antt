@@ -1,17 +1,16 @@
 -- What a job does, whatever its standard output and its target are.
 use Rattle.std.proofs.Common.{◌≡◌, ◌<◌, ◌∙◌, ap, inl, inr, ℕ, List, [], Option, None, Some, Bool, length, refl, subst, sym}
 use Rattle.bolt_cli.proofs.Vocabulary.{Answer, CopiesUnless, CopyKind, WritesAnswer, DoesJob, JobEnding, Extent, Ghosts, Job, MakesCopy, Member}
-use Rattle.bolt_cli.proofs.Vocabulary.{MetaChoice, PageSize, WritesCopy, WritesRestored, copy_page_size, copy_report, done, buffered_failures}
-use Rattle.bolt_cli.proofs.Vocabulary.{buffered_of, buffered_text, hash_refusal, lengths_line, repair_report, target_name}
+use Rattle.bolt_cli.proofs.Vocabulary.{MetaChoice, PageSize, ShowsJob, WritesCopy, WritesRepaired, copy_page_size, copy_report, done, buffered_of}
+use Rattle.bolt_cli.proofs.Vocabulary.{buffered_sink, hash_refusal, lengths_line, repair_report, target_name}
 use Rattle.bolt_cli.proofs.Vocabulary.{text_members, ∥∥₁_map}
 use Rattle.bolt_job.specs.declared.job.Job.TheVariants as job
 
-module _ {O T : Type 0} (out_taken : O → Option (List ℕ)) (out_failed : O → ℕ) (out_old out_new : O)
-    (target_taken : T → Option (List ℕ)) (target_failed : T → ℕ) (target_old target_new : T) where
+module _ {O T : Type 0} (out : Ghosts O) (out_old out_new : O) (target : Ghosts T) (target_old target_new : T) where
   -- a job without an OUT does the same, whatever its target is
   pub shown : (file : List ℕ) (j : Job) (ending : JobEnding) → target_name j ≡ None
-      → DoesJob out_taken out_failed out_old out_new target_taken target_failed target_old target_new file j ending
-      → DoesJob {T = Unit {0}} out_taken out_failed out_old out_new (λ _. None) (λ _. 0) tt tt file j ending
+      → DoesJob out out_old out_new target target_old target_new file j ending
+      → ShowsJob out out_old out_new file j ending
   shown file (job.Compact j) ending none does = absurd (cc)
   shown file (job.Load j) ending none does = absurd (cc)
   shown file (job.EtcdRepair j) ending none does = absurd (cc)
@@ -21,8 +20,8 @@ module _ {O T : Type 0} (out_taken : O → Option (List ℕ)) (out_failed : O �
 module _ {O T : Type 0} (out : Ghosts O) (target : Ghosts T) (out_old out_new : O) (target_old target_new : T) {text : List ℕ} {failures : ℕ}
     (was_empty : out.taken out_old ≡ Some []) (was_sound : out.failed out_old ≡ 0)
     (holds : out.taken out_new ≡ Some text) (fails : out.failed out_new ≡ failures) where
-  does_buffered : (answer : Answer) (ending : JobEnding) → WritesAnswer out.taken out.failed out_old out_new answer ending
-      → WritesAnswer buffered_text buffered_failures (buffered_of [] 0) (buffered_of text failures) answer ending
+  does_buffered : (answer : Answer) (ending : JobEnding) → WritesAnswer out out_old out_new answer ending
+      → WritesAnswer buffered_sink (buffered_of [] 0) (buffered_of text failures) answer ending
   does_buffered answer ending (inl (put, same, is)) = inl (rw holds at (rw was_empty at put), sym fails ∙ same ∙ was_sound, is)
   does_buffered answer ending (inr (less, part, is)) = inr (
     subst (λ n. 0 < n) fails less,
@@ -37,28 +36,26 @@ module _ {O T : Type 0} (out : Ghosts O) (target : Ghosts T) (out_old out_new : 
       ap (λ t. buffered_of t failures) empty ∙ ap (buffered_of []) sound
 
   written : (kind : CopyKind) (page_size : ℕ) (listing : List Member) (sequence : ℕ) (answer : ℕ → Answer) (ending : JobEnding)
-      → WritesCopy out.taken out.failed out_old out_new target.taken target.failed target_old target_new kind page_size listing sequence answer ending
-      → WritesCopy buffered_text buffered_failures (buffered_of [] 0) (buffered_of text failures) target.taken target.failed target_old target_new
-      kind page_size listing sequence answer ending
+      → WritesCopy out out_old out_new target target_old target_new kind page_size listing sequence answer ending
+      → WritesCopy buffered_sink (buffered_of [] 0) (buffered_of text failures) target target_old target_new kind page_size listing sequence answer
+      ending
   written kind page_size listing sequence answer ending (inl (small, good, put, sound, does)) =
       inl (small, good, put, sound, does_buffered _ ending does)
   written kind page_size listing sequence answer ending (inr (failure, stops, same, is)) = inr (failure, stops, untouched same, is)
 
   module _ (kind : CopyKind) (page_size : ℕ) (listing : List Member) (sequence : ℕ) (answer : ℕ → Answer) (ending : JobEnding) where
     unless : (hash : _)
-        → CopiesUnless out.taken out.failed out_old out_new target.taken target.failed target_old target_new hash
-        (WritesCopy out.taken out.failed out_old out_new target.taken target.failed target_old target_new kind page_size listing sequence answer)
+        → CopiesUnless out out_old out_new target target_old target_new hash
+        (WritesCopy out out_old out_new target target_old target_new kind page_size listing sequence answer) ending
+        → CopiesUnless buffered_sink (buffered_of [] 0) (buffered_of text failures) target target_old target_new hash
+        (WritesCopy buffered_sink (buffered_of [] 0) (buffered_of text failures) target target_old target_new kind page_size listing sequence answer)
         ending
-        → CopiesUnless buffered_text buffered_failures (buffered_of [] 0) (buffered_of text failures) target.taken target.failed target_old target_new hash
-        (WritesCopy buffered_text buffered_failures (buffered_of [] 0) (buffered_of text failures) target.taken target.failed target_old target_new
-        kind page_size listing sequence answer) ending
     unless (Some fault) (same, untouched_target, is) = (untouched same, untouched_target, is)
     unless None writes = written kind page_size listing sequence answer ending writes
 
   copied : (file : List ℕ) (choice : MetaChoice) (size : Option PageSize) (kind : CopyKind) (extent : Extent) (ending : JobEnding)
-      → MakesCopy out.taken out.failed out_old out_new target.taken target.failed target_old target_new file choice size kind extent ending
-      → MakesCopy buffered_text buffered_failures (buffered_of [] 0) (buffered_of text failures) target.taken target.failed target_old target_new file
-      choice size kind extent ending
+      → MakesCopy out out_old out_new target target_old target_new file choice size kind extent ending
+      → MakesCopy buffered_sink (buffered_of [] 0) (buffered_of text failures) target target_old target_new file choice size kind extent ending
   copied file choice size kind extent ending (inl (meta, listing, lost, found, read, faults, are, copies)) = inl (
     meta,
     listing,
@@ -73,26 +70,25 @@ module _ {O T : Type 0} (out : Ghosts O) (target : Ghosts T) (out_old out_new : 
   copied file choice size kind extent ending (inr (why, unread, (same, untouched_target, is))) =
       inr (why, unread, (untouched same, untouched_target, is))
 
-  restored : (file : List ℕ) (choice : MetaChoice) (size : Option PageSize) (kind : CopyKind) (search : Bool) (ending : JobEnding)
-      → WritesRestored out.taken out.failed out_old out_new target.taken target.failed target_old target_new file choice size kind search ending
-      → WritesRestored buffered_text buffered_failures (buffered_of [] 0) (buffered_of text failures) target.taken target.failed target_old target_new file
-      choice size kind search ending
-  restored file choice size kind search ending (meta, listing, lost, others, back, left_out, is, faults, are, writes) = (
+  repaired : (file : List ℕ) (choice : MetaChoice) (size : Option PageSize) (kind : CopyKind) (search : Bool) (ending : JobEnding)
+      → WritesRepaired out out_old out_new target target_old target_new file choice size kind search ending
+      → WritesRepaired buffered_sink (buffered_of [] 0) (buffered_of text failures) target target_old target_new file choice size kind search ending
+  repaired file choice size kind search ending (meta, listing, lost, unread_views, back, left_out, is, faults, are, writes) = (
     meta,
     listing,
     lost,
-    others,
+    unread_views,
     back,
     left_out,
     is,
     faults,
     are,
-    written kind (copy_page_size size meta) listing meta.root_sequence (repair_report faults lost others back left_out (length file)) ending writes,
+    written kind (copy_page_size size meta) listing meta.root_sequence (repair_report faults lost unread_views back left_out (length file)) ending writes,
   )
 
   pub buffered_job : (file : List ℕ) (j : Job) (ending : JobEnding)
-      → DoesJob out.taken out.failed out_old out_new target.taken target.failed target_old target_new file j ending
-      → DoesJob buffered_text buffered_failures (buffered_of [] 0) (buffered_of text failures) target.taken target.failed target_old target_new file j ending
+      → DoesJob out out_old out_new target target_old target_new file j ending
+      → DoesJob buffered_sink (buffered_of [] 0) (buffered_of text failures) target target_old target_new file j ending
   buffered_job file (job.Compact j) ending does = copied file j.meta j.page_size j.kind j.extent ending does
   buffered_job file (job.Load j) ending does = elim does [
     | inl (right, writes) ↦
@@ -100,7 +96,7 @@ module _ {O T : Type 0} (out : Ghosts O) (target : Ghosts T) (out_old out_new : 
     | inr (fault, is, (same, target, ends)) ↦ inr (fault, is, (untouched same, target, ends))
   ]
   buffered_job file (job.EtcdRepair j) ending does = elim does [
-    | inl made ↦ inl (∥∥₁_map made (restored file j.meta j.page_size j.kind j.search ending))
+    | inl made ↦ inl (∥∥₁_map made (repaired file j.meta j.page_size j.kind j.search ending))
     | inr (why, is, (same, target, ends)) ↦ inr (why, is, (untouched same, target, ends))
   ]
   buffered_job file j ending (answer, is, does, same) = (answer, is, does_buffered answer ending does, same)

@@ -1,7 +1,7 @@
 -- What is buffered for standard error once a job has ended.
 use Rattle.std.proofs.Common.{◌≡◌, ◌≢◌, ◌<◌, ◌∙◌, ap, inl, inr, arith, ℕ, List, [], Option, None, Some, Result, Ok, Err, OnOk, OnErr}
 use Rattle.std.proofs.lemmas.Option.{same_Some}
-use Rattle.bolt_cli.proofs.Vocabulary.{Appends, Deed, JobEnding, Fails, FailsUnended, IsBufferedLine, IsReported, Reports, failure_line}
+use Rattle.bolt_cli.proofs.Vocabulary.{Appends, Deed, Ghosts, JobEnding, Fails, FailsUnended, IsBufferedLine, IsReported, Reports, failure_line}
 
 -- what an empty sink holds after a text was put to it
 pub appended : (taken : Option (List ℕ)) (text : List ℕ) → Appends (Some []) taken text → taken ≡ Some text
@@ -9,12 +9,12 @@ appended (Some bytes) text put = ap Some put
 appended None text put = absurd put
 
 -- what a fresh sink holds after the ending was reported to it
-pub buffered_line : {S : Type 0} (taken : S → Option (List ℕ)) (failed : S → ℕ) (old new : S) (ending : JobEnding)
-    → taken old ≡ Some [] → failed old ≡ 0 → Reports taken failed old new ending → IsBufferedLine ending (taken new) (failed new)
-buffered_line taken failed old new (Ok status) empty sound same = (ap taken same ∙ empty, ap failed same ∙ sound)
-buffered_line taken failed old new (Err failure) empty sound (inl (put, same)) =
-    inl (appended (taken new) (failure_line failure) (rw empty at put), same ∙ sound)
-buffered_line taken failed old new (Err failure) empty sound (inr (less, part)) = inr less
+pub buffered_line : {S : Type 0} (sink : Ghosts S) (old new : S) (ending : JobEnding)
+    → sink.taken old ≡ Some [] → sink.failed old ≡ 0 → Reports sink old new ending → IsBufferedLine ending (sink.taken new) (sink.failed new)
+buffered_line sink old new (Ok status) empty sound same = (ap sink.taken same ∙ empty, ap sink.failed same ∙ sound)
+buffered_line sink old new (Err failure) empty sound (inl (put, same)) =
+    inl (appended (sink.taken new) (failure_line failure) (rw empty at put), same ∙ sound)
+buffered_line sink old new (Err failure) empty sound (inr (less, part)) = inr less
 
 module _ {T O : Type 0} (text : List ℕ) (failures : ℕ) where
   -- the line that is buffered is that of a failure

@@ -164,45 +164,42 @@ Choose-either : (again : Bool) {A B C : Type 0} → (A → C) → (B → C) → 
 Choose-either true first second chosen = first chosen
 Choose-either false first second chosen = second chosen
 
-module _ {T O : Type 0} (output_taken : O → Option (List ℕ)) (output_failed : O → ℕ) where
-  closes : (before after : O) (ending : JobEnding) (deeds : List (Deed T O)) (code : ℕ) → Closes output_taken output_failed after ending deeds code
+module _ {T O : Type 0} (output : Ghosts O) where
+  closes : (before after : O) (ending : JobEnding) (deeds : List (Deed T O)) (code : ℕ) → Closes output after ending deeds code
       → Prints (Opened (Ok before) ∷ deeds) code
-  closes before after ending (Closed output (Ok done) ∷ deeds) code are = reported before output done ending deeds code are.2
-  closes before after ending (Closed output (Err ReaderLeft) ∷ deeds) code (is, sound, (none, failed)) = reader_left before output deeds code none failed
-  closes before after ending (Closed output (Err Failed) ∷ deeds) code (is, sound, fails) = unprinted before output deeds code (Fails-said _ deeds code fails)
-  closes before after ending (Dropped output ReaderLeft ∷ deeds) code (is, less, (none, failed)) = dropped_left before output deeds code none failed
-  closes before after ending (Dropped output Failed ∷ deeds) code (is, less, fails) = dropped before output deeds code (Fails-said _ deeds code fails)
+  closes before after ending (Closed printed (Ok done) ∷ deeds) code are = reported before printed done ending deeds code are.2
+  closes before after ending (Closed printed (Err ReaderLeft) ∷ deeds) code (is, sound, (none, failed)) = reader_left before printed deeds code none failed
+  closes before after ending (Closed printed (Err Failed) ∷ deeds) code (is, sound, fails) = unprinted before printed deeds code (Fails-said _ deeds code fails)
+  closes before after ending (Dropped printed ReaderLeft ∷ deeds) code (is, less, (none, failed)) = dropped_left before printed deeds code none failed
+  closes before after ending (Dropped printed Failed ∷ deeds) code (is, less, fails) = dropped before printed deeds code (Fails-said _ deeds code fails)
   closes before after ending deeds code are = absurd are
 
-  prints : (text : List ℕ) (ending : JobEnding) (deeds : List (Deed T O)) (code : ℕ) → PrintsText output_taken output_failed text ending deeds code
-      → Prints deeds code
+  prints : (text : List ℕ) (ending : JobEnding) (deeds : List (Deed T O)) (code : ℕ) → PrintsText output text ending deeds code → Prints deeds code
   prints text ending (Opened (Ok before) ∷ deeds) code (fresh, after, takes, is) = closes before after ending deeds code is
   prints text ending (Opened (Err fault) ∷ deeds) code are = unopened fault deeds code (Fails-said _ deeds code are)
   prints text ending deeds code are = absurd are
 
-  pub shows : (file : List ℕ) (job : Job) (deeds : List (Deed T O)) (code : ℕ) → Shows output_taken output_failed file job deeds code
-      → Prints deeds code
+  pub shows : (file : List ℕ) (job : Job) (deeds : List (Deed T O)) (code : ℕ) → Shows output file job deeds code → Prints deeds code
   shows file job (Opened (Ok before) ∷ deeds) code (fresh, after, ending, does, is) = closes before after ending deeds code is
   shows file job (Opened (Err fault) ∷ deeds) code are = unopened fault deeds code (Fails-said _ deeds code are)
   shows file job deeds code are = absurd are
 
   module _ (out : Option Text) (job : Job) where
-    reads_rest : (first : List ℕ) (deeds : List (Deed T O)) (code : ℕ) → ReadsRest output_taken output_failed job first deeds code
-        → Going out deeds code
+    reads_rest : (first : List ℕ) (deeds : List (Deed T O)) (code : ℕ) → ReadsRest output job first deeds code → Going out deeds code
     reads_rest first (ReadOn begun count (Ok bytes) ∷ deeds) code (is, end, are) =
         read_on out begun count bytes deeds code (going out deeds code (shows bytes job deeds code are))
     reads_rest first (ReadOn begun count (Err fault) ∷ deeds) code (is, end, fails) =
         unread_rest out begun count fault deeds code (FailsGathered-said _ deeds code fails)
     reads_rest first deeds code are = absurd are
 
-    reads_metas : (deeds : List (Deed T O)) (code : ℕ) → ReadsMetas output_taken output_failed job deeds code → Asked out deeds code
+    reads_metas : (deeds : List (Deed T O)) (code : ℕ) → ReadsMetas output job deeds code → Asked out deeds code
     reads_metas (ReadFirst name count (Ok first) ∷ deeds) code (is, at_most, are) = read_first out name count first deeds code (reads_rest first deeds code are)
     reads_metas (ReadFirst name count (Err fault) ∷ deeds) code (is, at_most, fails) =
         unopened_file out name count fault deeds code (FailsGathered-said _ deeds code fails)
     reads_metas deeds code are = absurd are
 
   prints_buffered : (failures : ℕ) (text : List ℕ) (ending : JobEnding) (deeds : List (Deed T O)) (code : ℕ)
-      → PrintsBuffered output_taken output_failed failures text ending deeds code → Prints deeds code
+      → PrintsBuffered output failures text ending deeds code → Prints deeds code
   prints_buffered zero text ending deeds code are = prints text ending deeds code are
   prints_buffered (suc more) text ending deeds code are = failed deeds code (FailsLacking-said deeds code are)
 
@@ -210,7 +207,7 @@ module _ {T O : Type 0} (target : Ghosts T) (output : Ghosts O) where
   writes : (name : List ℕ) (permissions : ℕ) (made : T) (file : List ℕ) (job : Job) (deeds : List (Deed T O)) (code : ℕ)
       → WritesOut target output made file job deeds code → Going (Some name) (Made name permissions (Ok made) ∷ deeds) code
   writes name permissions made file job (Ended after (Ok done) ∷ deeds) code (buffered, ending, does, are) =
-      let later = prints_buffered output.taken output.failed buffered.failures buffered.text ending deeds code are in
+      let later = prints_buffered output buffered.failures buffered.text ending deeds code are in
       record { ordered = later.after_out name permissions made after done; makes = (refl, makes_none (Some name) deeds later.none_made) }
   writes name permissions made file job (Ended after (Err fault) ∷ deeds) code (buffered, ending, does, fails) =
       unended name permissions made after fault deeds code (FailsUnended-said ending deeds code fails)
@@ -223,7 +220,7 @@ module _ {T O : Type 0} (target : Ghosts T) (output : Ghosts O) where
   goes (Some out) source job (Made name permissions (Err fault) ∷ deeds) code (is, bits, fails) =
       rw (← is) (unmade name permissions fault deeds code (FailsGathered-said _ deeds code fails))
   goes (Some out) source job deeds code are = absurd are
-  goes None source job deeds code are = going None deeds code (shows output.taken output.failed source.bytes.items job deeds code are)
+  goes None source job deeds code are = going None deeds code (shows output source.bytes.items job deeds code are)
 
   reads : (left : ℕ) (job : Job) (deeds : List (Deed T O)) (code : ℕ) → Reads target output left job deeds code → Asked (target_name job) deeds code
   reads zero job (Said text ∷ []) code (is, one) = let some = not_0 code one in search rules
@@ -236,12 +233,12 @@ module _ {T O : Type 0} (target : Ghosts T) (output : Ghosts O) where
 
   does_asked : (job : Job) (deeds : List (Deed T O)) (code : ℕ) → DoesAsked target output job deeds code → Asked (target_name job) deeds code
   does_asked job deeds code are =
-      Choose-either (needs_metas_alone job) (reads_metas output.taken output.failed (target_name job) job deeds code) (reads 3 job deeds code) are
+      Choose-either (needs_metas_alone job) (reads_metas output (target_name job) job deeds code) (reads 3 job deeds code) are
 
   refuses : (why : Refusal) (deeds : List (Deed T O)) (code : ℕ) → Refuses target output why deeds code → Prints deeds code
   refuses refusal.Memory deeds code fails = failed deeds code (Fails-said _ deeds code fails)
-  refuses (refusal.Help text) deeds code are = prints output.taken output.failed (string_bytes text) (Ok 0) deeds code are
-  refuses (refusal.Version text) deeds code are = prints output.taken output.failed (string_bytes text) (Ok 0) deeds code are
+  refuses (refusal.Help text) deeds code are = prints output (string_bytes text) (Ok 0) deeds code are
+  refuses (refusal.Version text) deeds code are = prints output (string_bytes text) (Ok 0) deeds code are
   refuses (refusal.Usage text) deeds code (inl (ends, is)) = said deeds code 2 (Ends-said _ deeds code 2 ends is) (λ none. omega (arith, none))
   refuses (refusal.Usage text) deeds code (inr fails) = failed deeds code (FailsLacking-said deeds code fails)
   refuses (refusal.Word why) deeds code (ends, is) = said deeds code 2 (Ends-said _ deeds code 2 ends is) (λ none. omega (arith, none))

@@ -4,8 +4,8 @@ use Rattle.std.proofs.lemmas.Option.{same_Some}
 use Rattle.std.specs.Io.KnownBytes.{IsAtEnd}
 use Rattle.bolt_cli.proofs.Vocabulary.{Appends, Choose, Closed, Deed, DoesAsked, DoesJob, Dropped, Ended, JobEnding, Fails, FailsGathered}
 use Rattle.bolt_cli.proofs.Vocabulary.{FailsLacking, FailsUnended, Ghosts, Goes, IsReported, IsRun, Job, Lacked, Made, Opened, PrintsBuffered}
-use Rattle.bolt_cli.proofs.Vocabulary.{PrintsText, Read, ReadFirst, ReadOn, Reads, ReadsMetas, Said, Shows, Text, WritesOut, buffered_failures}
-use Rattle.bolt_cli.proofs.Vocabulary.{buffered_of, buffered_text, needs_metas_alone, target_name}
+use Rattle.bolt_cli.proofs.Vocabulary.{PrintsText, Read, ReadFirst, ReadOn, Reads, ReadsMetas, Said, Shows, Text, WritesOut, buffered_of}
+use Rattle.bolt_cli.proofs.Vocabulary.{buffered_sink, needs_metas_alone, no_sink, target_name}
 use Rattle.bolt_cli.proofs.BufferedJobs.{buffered_job}
 use Rattle.bolt_cli.proofs.MetasAlone.{metas_have_no_target}
 use Rattle.bolt_cli.proofs.Ordering as ordering
@@ -86,7 +86,7 @@ module _ {T O : Type 0} (target : Ghosts T) (output : Ghosts O) (all : ShowsAll 
   HasAnswer out job file printed =
       (text : List ℕ) × (ending : JobEnding) × (output.taken printed ≡ Some text) × AnswersTo target output out job file text ending
 
-  shows : (file : List ℕ) (job : Job) (deeds : List (Deed T O)) (code : ℕ) → Shows output.taken output.failed file job deeds code
+  shows : (file : List ℕ) (job : Job) (deeds : List (Deed T O)) (code : ℕ) → Shows output file job deeds code
       → ForClosed (HasAnswer None job file) deeds
   shows file job (Opened (Ok before) ∷ Closed printed (Ok done) ∷ deeds) code (begun, after, ending, does, (is, sound, rest)) =
       let same = rw (← is) at does in
@@ -95,8 +95,7 @@ module _ {T O : Type 0} (target : Ghosts T) (output : Ghosts O) (all : ShowsAll 
           text,
           ending,
           holds,
-          buffered_job output (record { taken = λ _. None; failed = λ _. 0 }) before printed tt tt (fresh before begun.0) begun.1 holds sound file job
-              ending same,
+          buffered_job output no_sink before printed tt tt (fresh before begun.0) begun.1 holds sound file job ending same,
         ),
         reported _ ending deeds code rest,
       )
@@ -107,7 +106,7 @@ module _ {T O : Type 0} (target : Ghosts T) (output : Ghosts O) (all : ShowsAll 
   shows file job (Opened (Err fault) ∷ deeds) code is = fails _ _ deeds code is
   shows file job deeds code is = absurd is
 
-  prints : (piece : List ℕ) (ending : JobEnding) (deeds : List (Deed T O)) (code : ℕ) → PrintsText output.taken output.failed piece ending deeds code
+  prints : (piece : List ℕ) (ending : JobEnding) (deeds : List (Deed T O)) (code : ℕ) → PrintsText output piece ending deeds code
       → ForClosed (λ printed. output.taken printed ≡ Some piece) deeds
   prints piece ending (Opened (Ok before) ∷ Closed printed (Ok done) ∷ deeds) code (begun, after, takes, (is, sound, rest)) =
       let put = rw (← is) at takes in (
@@ -122,7 +121,7 @@ module _ {T O : Type 0} (target : Ghosts T) (output : Ghosts O) (all : ShowsAll 
   prints piece ending deeds code is = absurd is
 
   prints_buffered : (failures : ℕ) (piece : List ℕ) (ending : JobEnding) (deeds : List (Deed T O)) (code : ℕ)
-      → PrintsBuffered output.taken output.failed failures piece ending deeds code
+      → PrintsBuffered output failures piece ending deeds code
       → ForClosed (λ printed. (output.taken printed ≡ Some piece) × (failures ≡ 0)) deeds
   prints_buffered zero piece ending deeds code is = closed_as _ _ (λ printed whole. (whole, refl)) deeds (prints piece ending deeds code is)
   prints_buffered (suc more) piece ending deeds code is = lacks _ deeds code is
@@ -130,7 +129,7 @@ module _ {T O : Type 0} (target : Ghosts T) (output : Ghosts O) (all : ShowsAll 
   module _ (out : Text) (file : List ℕ) (job : Job) where
     -- OUT is on the disk, and its report is printed
     answered : (made after : T) (buffered : Buffered) (ending : JobEnding)
-        → DoesJob buffered_text buffered_failures (buffered_of [] 0) buffered target.taken target.failed made after file job ending
+        → DoesJob buffered_sink (buffered_of [] 0) buffered target made after file job ending
         → (printed : O) → (output.taken printed ≡ Some buffered.text) × (buffered.failures ≡ 0) → HasAnswer (Some out) job file printed
     answered made after buffered ending does printed (whole, sound) =
         let same : buffered ≡ buffered_of buffered.text 0 = ap (buffered_of buffered.text) sound in
@@ -171,7 +170,7 @@ module _ {T O : Type 0} (target : Ghosts T) (output : Ghosts O) (all : ShowsAll 
   goes_none_read (Some out) source job (Made name permissions made ∷ deeds) code are =
       (ordering.goes target output (Some out) source job (Made name permissions made ∷ deeds) code are).ordered.reads_first.0
   goes_none_read (Some out) source job deeds code are = absurd are
-  goes_none_read None source job deeds code are = (ordering.shows output.taken output.failed source.bytes.items job deeds code are).none_read
+  goes_none_read None source job deeds code are = (ordering.shows output source.bytes.items job deeds code are).none_read
 
   reads : (left : ℕ) (job : Job) (deeds : List (Deed T O)) (code : ℕ) → Reads target output left job deeds code
       → ForClosed (HasLast (target_name job) job deeds) deeds
@@ -189,11 +188,11 @@ module _ {T O : Type 0} (target : Ghosts T) (output : Ghosts O) (all : ShowsAll 
   reads (suc left) job (Read name (Err fault) ∷ deeds) code (same, is) = fails_gathered _ _ deeds code is
   reads (suc left) job deeds code are = absurd are
 
-  metas : (job : Job) → target_name job ≡ None → (deeds : List (Deed T O)) (code : ℕ) → ReadsMetas output.taken output.failed job deeds code
+  metas : (job : Job) → target_name job ≡ None → (deeds : List (Deed T O)) (code : ℕ) → ReadsMetas output job deeds code
       → ForClosed (HasLast (target_name job) job deeds) deeds
   metas job none (ReadFirst name count (Ok first) ∷ ReadOn begun more (Ok bytes) ∷ deeds) code (same, most, (again, end, are)) =
       let last : last_read {T = T} {O = O} (ReadFirst name count (Ok first) ∷ ReadOn begun more (Ok bytes) ∷ deeds) ≡ Some bytes =
-      rw (last_none deeds (ordering.shows output.taken output.failed bytes job deeds code are).none_read) refl in
+      rw (last_none deeds (ordering.shows output bytes job deeds code are).none_read) refl in
       subst (λ (out : Option Text). ForClosed (HasLast out job (ReadFirst name count (Ok first) ∷ ReadOn begun more (Ok bytes) ∷ deeds)) deeds) (sym none)
       (closed_as _ _ (λ printed answer. (bytes, last, answer)) deeds (shows target output all bytes job deeds code are))
   metas job none (ReadFirst name count (Ok first) ∷ ReadOn begun more (Err fault) ∷ deeds) code (same, most, (again, end, is)) =
@@ -207,7 +206,7 @@ module _ {T O : Type 0} (target : Ghosts T) (output : Ghosts O) (all : ShowsAll 
   asked job deeds code are = by (needs_metas_alone job) refl are
     where
       by : (alone : Bool) → needs_metas_alone job ≡ alone
-          → Choose alone (ReadsMetas output.taken output.failed job deeds code) (Reads target output 3 job deeds code)
+          → Choose alone (ReadsMetas output job deeds code) (Reads target output 3 job deeds code)
           → ForClosed (HasLast (target_name job) job deeds) deeds
       by true is metas_are = metas job (metas_have_no_target job is) deeds code metas_are
       by false is reads_are = reads 3 job deeds code reads_are

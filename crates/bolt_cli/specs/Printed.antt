@@ -4,7 +4,7 @@ use Rattle.bolt_commands.specs.{Answers.JobEnding, JobAnswers.DoesJob}
 use Rattle.bolt_format.specs.declared.sink.Sink.{Ghosts}
 use Rattle.bolt_job.specs.{CommandLine.Asks, CommandLine.IsRefusalOf, Jobs.target_name, declared.job.Job.Job, declared.refusal.Refusal.Refusal}
 use Rattle.bolt_text.specs.Lines.{Text}
-use Rattle.bolt_cli.specs.{Deeds.Deed, Deeds.Closed, Deeds.Read, Deeds.ReadOn, Runs.buffered_failures, Runs.buffered_of, Runs.buffered_text}
+use Rattle.bolt_cli.specs.{Deeds.Deed, Deeds.Closed, Deeds.Read, Deeds.ReadOn, Runs.ShowsJob, Runs.buffered_of, Runs.buffered_sink}
 
 -- the bytes of FILE, as they were read last
 abbrev pub or_before : Option (List ℕ) → Option (List ℕ) → Option (List ℕ)
@@ -25,10 +25,8 @@ module _ {T O : Type 0} (target : Ghosts T) (output : Ghosts O) where
   -- a job writes this text to a sink that has room for it, and ends so; with an OUT, it writes that too
   abbrev pub AnswersTo : Option Text → Job → (file text : List ℕ) → JobEnding → Type 0
   AnswersTo (Some out) job file text ending =
-      (before after : T) × DoesJob buffered_text buffered_failures (buffered_of [] 0) (buffered_of text 0) target.taken target.failed before after
-      file job ending
-  AnswersTo None job file text ending =
-      DoesJob {T = Unit {0}} buffered_text buffered_failures (buffered_of [] 0) (buffered_of text 0) (λ _. None) (λ _. 0) tt tt file job ending
+      (before after : T) × DoesJob buffered_sink (buffered_of [] 0) (buffered_of text 0) target before after file job ending
+  AnswersTo None job file text ending = ShowsJob buffered_sink (buffered_of [] 0) (buffered_of text 0) file job ending
 
   abbrev pub Answers : Job → (file text : List ℕ) → JobEnding → Type 0
   Answers job = AnswersTo (target_name job) job

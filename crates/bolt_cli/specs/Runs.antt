@@ -56,31 +56,32 @@ pub record Buffered : Type 0 where
 abbrev pub buffered_of : List ℕ → ℕ → Buffered
 buffered_of text failures = record { text = text; failures = failures }
 
-abbrev pub buffered_text : Buffered → Option (List ℕ)
-buffered_text buffered = Some buffered.text
+abbrev pub buffered_sink : Ghosts Buffered
+buffered_sink = record { taken = λ buffered. Some buffered.text; failed = λ buffered. buffered.failures }
 
-abbrev pub buffered_failures : Buffered → ℕ
-buffered_failures buffered = buffered.failures
+-- no sink
+abbrev pub no_sink : Ghosts (Unit {0})
+no_sink = record { taken = λ _. None; failed = λ _. 0 }
 
 abbrev pub Choose : Bool → Type 0 → Type 0 → Type 0
 Choose true A B = A
 Choose false A B = B
 
 -- a sink that took nothing yet, and hasn't failed
-abbrev pub IsFresh : {S : Type 0} → (taken : S → Option (List ℕ)) (failed : S → ℕ) → S → Type 0
-IsFresh taken failed sink = IsAtEnd (taken sink) × (failed sink ≡ 0)
+abbrev pub IsFresh : {S : Type 0} (sink : Ghosts S) → S → Type 0
+IsFresh sink state = IsAtEnd (sink.taken state) × (sink.failed state ≡ 0)
 
 -- ---- the deeds and the status, from the last stage to the first
 
-module _ {O : Type 0} (output_taken : O → Option (List ℕ)) (output_failed : O → ℕ) where
+module _ {O : Type 0} (output : Ghosts O) where
   -- a text was put on standard output: all of it, unless that failed
   abbrev pub Takes : List ℕ → O → O → Type 0
   Takes text before after =
-      (output_failed after ≡ 0 → Appends (output_taken before) (output_taken after) text) × AppendsPrefix (output_taken before) (output_taken after) text
+      (output.failed after ≡ 0 → Appends (output.taken before) (output.taken after) text) × AppendsPrefix (output.taken before) (output.taken after) text
 
   -- a job without an OUT, on standard output from one state to another
   abbrev pub ShowsJob : O → O → List ℕ → Job → JobEnding → Type 0
-  ShowsJob before after file job ending = DoesJob {T = Unit {0}} output_taken output_failed before after (λ _. None) (λ _. 0) tt tt file job ending
+  ShowsJob before after file job ending = DoesJob output before after no_sink tt tt file job ending
 
 module _ {T O : Type 0} where
   -- the line goes to standard error, and nothing comes after it
@@ -119,25 +120,25 @@ module _ {T O : Type 0} where
   IsUnprinted ReaderLeft deeds code = (deeds ≡ []) × (code ≡ 1)
   IsUnprinted Failed deeds code = Fails (failure_line Write) deeds code
 
-module _ {T O : Type 0} (output_taken : O → Option (List ℕ)) (output_failed : O → ℕ) where
+module _ {T O : Type 0} (output : Ghosts O) where
   -- standard output comes back in this state
   abbrev pub Closes : O → JobEnding → List (Deed T O) → ℕ → Type 0
-  Closes after ending (Closed output (Ok done) ∷ deeds) code = (output ≡ after) × (output_failed output ≡ 0) × IsReported ending deeds code
-  Closes after ending (Closed output (Err fault) ∷ deeds) code = (output ≡ after) × (output_failed output ≡ 0) × IsUnprinted fault deeds code
-  Closes after ending (Dropped output fault ∷ deeds) code = (output ≡ after) × (0 < output_failed output) × IsUnprinted fault deeds code
+  Closes after ending (Closed printed (Ok done) ∷ deeds) code = (printed ≡ after) × (output.failed printed ≡ 0) × IsReported ending deeds code
+  Closes after ending (Closed printed (Err fault) ∷ deeds) code = (printed ≡ after) × (output.failed printed ≡ 0) × IsUnprinted fault deeds code
+  Closes after ending (Dropped printed fault ∷ deeds) code = (printed ≡ after) × (0 < output.failed printed) × IsUnprinted fault deeds code
   Closes after ending deeds code = ⊥
 
   -- standard output is opened, takes the text, and is closed
   abbrev pub PrintsText : List ℕ → JobEnding → List (Deed T O) → ℕ → Type 0
   PrintsText text ending (Opened (Ok before) ∷ deeds) code =
-      IsFresh output_taken output_failed before × (after : O) × Takes output_taken output_failed text before after × Closes after ending deeds code
+      IsFresh output before × (after : O) × Takes output text before after × Closes after ending deeds code
   PrintsText text ending (Opened (Err fault) ∷ deeds) code = Fails (failure_line Memory) deeds code
   PrintsText text ending deeds code = ⊥
 
   -- standard output is opened, the job is done on it, and it is closed
   abbrev pub Shows : List ℕ → Job → List (Deed T O) → ℕ → Type 0
   Shows file job (Opened (Ok before) ∷ deeds) code =
-      IsFresh output_taken output_failed before × (after : O) × (ending : JobEnding) × ShowsJob output_taken output_failed before after file job ending
+      IsFresh output before × (after : O) × (ending : JobEnding) × ShowsJob output before after file job ending
       × Closes after ending deeds code
   Shows file job (Opened (Err fault) ∷ deeds) code = Fails (failure_line Memory) deeds code
   Shows file job deeds code = ⊥
@@ -170,14 +171,14 @@ module _ {T O : Type 0} (target : Ghosts T) (output : Ghosts O) where
   abbrev pub WritesOut : T → List ℕ → Job → List (Deed T O) → ℕ → Type 0
   WritesOut before file job (Ended after result ∷ deeds) code =
       (buffered : Buffered) × (ending : JobEnding)
-      × DoesJob buffered_text buffered_failures (buffered_of [] 0) buffered target.taken target.failed before after file job ending
-      × IsEnded output.taken output.failed result buffered ending deeds code
+      × DoesJob buffered_sink (buffered_of [] 0) buffered target before after file job ending
+      × IsEnded output result buffered ending deeds code
   WritesOut before file job deeds code = ⊥
 
   -- OUT is made, with FILE's permission bits, and the job is done on it
   abbrev pub Makes : Text → Source → Job → List (Deed T O) → ℕ → Type 0
   Makes out source job (Made name permissions (Ok made) ∷ deeds) code =
-      (name ≡ out) × (permissions ≡ source.permissions) × IsFresh target.taken target.failed made × WritesOut made source.bytes.items job deeds code
+      (name ≡ out) × (permissions ≡ source.permissions) × IsFresh target made × WritesOut made source.bytes.items job deeds code
   Makes out source job (Made name permissions (Err fault) ∷ deeds) code =
       (name ≡ out) × (permissions ≡ source.permissions) × FailsGathered (unmade_line out fault) deeds code
   Makes out source job deeds code = ⊥
@@ -185,7 +186,7 @@ module _ {T O : Type 0} (target : Ghosts T) (output : Ghosts O) where
   -- the job is done: with an OUT, if it has one
   abbrev pub Goes : Option Text → Source → Job → List (Deed T O) → ℕ → Type 0
   Goes (Some out) source job deeds code = Makes out source job deeds code
-  Goes None source job deeds code = Shows output.taken output.failed source.bytes.items job deeds code
+  Goes None source job deeds code = Shows output source.bytes.items job deeds code
 
   -- FILE is read, at most so many times: again if it was changed meanwhile
   abbrev pub Reads : (left : ℕ) → Job → List (Deed T O) → ℕ → Type 0
@@ -197,13 +198,13 @@ module _ {T O : Type 0} (target : Ghosts T) (output : Ghosts O) where
 
   -- as much of FILE is read as the job needs, and it is done
   abbrev pub DoesAsked : Job → List (Deed T O) → ℕ → Type 0
-  DoesAsked job deeds code = Choose (needs_metas_alone job) (ReadsMetas output.taken output.failed job deeds code) (Reads 3 job deeds code)
+  DoesAsked job deeds code = Choose (needs_metas_alone job) (ReadsMetas output job deeds code) (Reads 3 job deeds code)
 
   -- words are refused: nothing is read or made
   abbrev pub Refuses : Refusal → List (Deed T O) → ℕ → Type 0
   Refuses refusal.Memory deeds code = Fails (failure_line Memory) deeds code
-  Refuses (refusal.Help text) deeds code = PrintsText output.taken output.failed (string_bytes text) (Ok 0) deeds code
-  Refuses (refusal.Version text) deeds code = PrintsText output.taken output.failed (string_bytes text) (Ok 0) deeds code
+  Refuses (refusal.Help text) deeds code = PrintsText output (string_bytes text) (Ok 0) deeds code
+  Refuses (refusal.Version text) deeds code = PrintsText output (string_bytes text) (Ok 0) deeds code
   Refuses (refusal.Usage text) deeds code = RefusesUsage (string_bytes text) deeds code
   Refuses (refusal.Word why) deeds code = Ends (error_line why.now) deeds × (code ≡ 2)
 

@@ -65,7 +65,7 @@ fn do_asked<O: Outside>(outside: &mut O, alloc: Global, job: &Job) -> u8
 fn read_metas<O: Outside>(outside: &mut O, alloc: Global, job: &Job) -> u8
     requires { target_name job.now ≡ None }
     ensures { Does O.done outside.old outside.new result
-        (ReadsMetas O.Output.taken O.Output.failed job.now) }
+        (ReadsMetas O.Output.Sink job.now) }
 {
     match outside.read_first(job.file(), META_LEN as u64) {
         Ok((first, file)) => read_rest(outside, alloc, job, file, first),
@@ -83,7 +83,7 @@ fn read_rest<O: Outside>(
 ) -> u8
     requires { target_name job.now ≡ None }
     ensures { Does O.done outside.old outside.new result
-        (ReadsRest O.Output.taken O.Output.failed job.now first.items) }
+        (ReadsRest O.Output.Sink job.now first.items) }
 {
     let count = metas_end(first.as_slice()) - META_LEN as u64;
     match outside.read_on(file, first, count) {
@@ -186,8 +186,7 @@ fn print_buffered<O: Outside>(outside: &mut O, out: &MemSink, err: &MemSink, cod
     ensures { (text : List ℕ) → ⟦<MemSink as Sink>⟧.taken out.now ≡ Some text
         → DoesBuffered O.done outside.old outside.new result
         (⟦<MemSink as Sink>⟧.taken err.now) (⟦<MemSink as Sink>⟧.failed err.now) code
-        (PrintsBuffered O.Output.taken O.Output.failed
-        (⟦<MemSink as Sink>⟧.failed out.now) text) }
+        (PrintsBuffered O.Output.Sink (⟦<MemSink as Sink>⟧.failed out.now) text) }
 {
     if out.failures() > 0 {
         fail_lacking(outside, out)
@@ -217,7 +216,7 @@ fn report_unended<O: Outside>(outside: &mut O, err: &MemSink) -> u8
 fn show<O: Outside>(outside: &mut O, alloc: Global, job: &Job, file: &[u8]) -> u8
     requires { target_name job.now ≡ None }
     ensures { Does O.done outside.old outside.new result
-        (Shows O.Output.taken O.Output.failed file.now job.now) }
+        (Shows O.Output.Sink file.now job.now) }
 {
     match outside.open() {
         Ok(mut output) => {
@@ -234,7 +233,7 @@ fn show<O: Outside>(outside: &mut O, alloc: Global, job: &Job, file: &[u8]) -> u
 fn print<O: Outside>(outside: &mut O, text: &[u8], err: &MemSink, code: u8) -> u8
     ensures { DoesBuffered O.done outside.old outside.new result
         (⟦<MemSink as Sink>⟧.taken err.now) (⟦<MemSink as Sink>⟧.failed err.now) code
-        (PrintsText O.Output.taken O.Output.failed text.now) }
+        (PrintsText O.Output.Sink text.now) }
 {
     match outside.open() {
         Ok(mut output) => {
@@ -249,7 +248,7 @@ fn print<O: Outside>(outside: &mut O, text: &[u8], err: &MemSink, code: u8) -> u
 fn close<O: Outside>(outside: &mut O, output: O::Output, err: &MemSink, code: u8) -> u8
     ensures { DoesBuffered O.done outside.old outside.new result
         (⟦<MemSink as Sink>⟧.taken err.now) (⟦<MemSink as Sink>⟧.failed err.now) code
-        (Closes O.Output.taken O.Output.failed output) }
+        (Closes O.Output.Sink output) }
 {
     if output.failures() > 0 {
         let fault = outside.drop_output(output);

@@ -1,7 +1,7 @@
 -- The copy of a listing, and what is then reported of it.
 use Rattle.std.proofs.Common.{◌≡◌, ◌∙◌, ℕ, List, Bool, Option, None, Some, Result, Ok, Err, inl, inr, length, map, refl, subst}
-use Rattle.bolt_commands.proofs.Vocabulary.{Answer, AreCopyFaults, BulkFault, CopiesTo, WritesAnswer, JobEnding, EndsCopy, Failure, FileFaults}
-use Rattle.bolt_commands.proofs.Vocabulary.{Ghosts, Member, WritesLayout, copied, copy_page_size, CompactsTo, CopiesListing, CopiesRead, IsOpened}
+use Rattle.bolt_commands.proofs.Vocabulary.{Answer, AreCopyFaults, BulkFault, CopiesTo, DoesJob, WritesAnswer, JobEnding, EndsCopy, Failure, FileFaults}
+use Rattle.bolt_commands.proofs.Vocabulary.{Ghosts, Member, WritesLayout, copy_failure, copy_page_size, CopiesListing, CopiesRead, IsOpened}
 use Rattle.bolt_commands.proofs.Vocabulary.{IsReadTo, copy_report, hash_refusal, LostView, OnOk, Contents, found_view, is_snapshot, contents_found}
 use Rattle.bolt_commands.proofs.Vocabulary.{contents_lost, contents_meta, HasGoodCopies, IsAskedBlueprint, Meta, layout_for, layout_of_listing}
 use Rattle.bolt_commands.proofs.Vocabulary.{blueprint_layout, failing, ∥∥₁_map}
@@ -9,11 +9,12 @@ use Rattle.bolt_commands.proofs.OpenedReads.{refused_read}
 use Rattle.bolt_commands.specs.declared.failure.Failure.TheVariants.{Hash}
 use Rattle.bolt_etcd.specs.declared.check.snapshot.SnapshotFault.{SnapshotFault}
 use Rattle.bolt_bulk.specs.declared.blueprint.Blueprint.{Blueprint}
-use Rattle.bolt_job.specs.{declared.choices.CopyKind.CopyKind, declared.choices.PageSize.PageSize, declared.writing_commands.CompactJob.CompactJob}
+use Rattle.bolt_job.specs.{declared.choices.CopyKind.CopyKind, declared.choices.PageSize.PageSize, declared.job.Job.TheVariants.Compact}
+use Rattle.bolt_job.specs.declared.writing_commands.CompactJob.{CompactJob}
 
 -- a copy that is whole is good
 pub copy_good : {T : Type 0} {target : Ghosts T} {old new : T} (listing : List Member) (blueprint : Blueprint) (snapshot : Bool) (result : Result ℕ BulkFault)
-    → EndsCopy target.taken target.failed old new (blueprint_layout blueprint listing) snapshot result → ∥ HasGoodCopies listing blueprint.sequence ∥₁
+    → EndsCopy target old new (blueprint_layout blueprint listing) snapshot result → ∥ HasGoodCopies listing blueprint.sequence ∥₁
     → CopiesTo target old new (blueprint_layout blueprint listing) listing snapshot result
 copy_good listing blueprint snapshot (Ok count) ends good =
     record {
@@ -36,7 +37,7 @@ pub copy_read : {T : Type 0} {target : Ghosts T} {old new : T} (job : CompactJob
     → IsAskedBlueprint job.kind job.page_size (contents_meta before) blueprint
     → (made : Result ℕ BulkFault) → CopiesTo target old new (blueprint_layout blueprint listing) listing (is_snapshot job.kind) made
     → OnOk made (contents_lost after ≡ lost)
-    → (result : Result ℕ Failure) → result ≡ failing copied made → CopiesRead target old new job file before after result
+    → (result : Result ℕ Failure) → result ≡ failing copy_failure made → CopiesRead target old new job file before after result
 copy_read job file before after lost read asked (Ok count) copy known result is = inl (_, _, read, rw is known, (Ok count, copy_asked asked copy, is))
 copy_read job file before after lost read asked (Err fault) copy known result is = inl (_, _, read, rw is tt, (Err fault, copy_asked asked copy, is))
 
@@ -44,29 +45,29 @@ copy_read job file before after lost read asked (Err fault) copy known result is
 pub copy_written : {O T : Type 0} (out : Ghosts O) {out_old out_new : O} {target : Ghosts T} {old new : T} {layout : List ℕ} {listing : List Member}
     {snapshot : Bool} (answer : ℕ → Answer)
     (count : ℕ) (ending : JobEnding) → CopiesTo target old new layout listing snapshot (Ok count)
-    → WritesAnswer out.taken out.failed out_old out_new (answer count) ending
-    → WritesLayout out.taken out.failed out_old out_new target.taken target.failed old new snapshot listing layout answer ending
+    → WritesAnswer out out_old out_new (answer count) ending
+    → WritesLayout out out_old out_new target old new snapshot listing layout answer ending
 copy_written out {out_old} {out_new} answer count ending copy does =
     let whole = copy.ends in
-    inl (whole.small, copy.good, whole.all, whole.sound, subst (λ (n : ℕ). WritesAnswer out.taken out.failed out_old out_new (answer n) ending) whole.long does)
+    inl (whole.small, copy.good, whole.all, whole.sound, subst (λ (n : ℕ). WritesAnswer out out_old out_new (answer n) ending) whole.long does)
 
 pub copy_stopped : {O T : Type 0} (out : Ghosts O) (out_old : O) {target : Ghosts T} {old new : T} {layout : List ℕ} {listing : List Member}
     {snapshot : Bool} (answer : ℕ → Answer)
-    (fault : BulkFault) (ending : JobEnding) → CopiesTo target old new layout listing snapshot (Err fault) → ending ≡ Err (copied fault)
-    → WritesLayout out.taken out.failed out_old out_old target.taken target.failed old new snapshot listing layout answer ending
-copy_stopped out out_old answer fault ending copy is = inr (copied fault, copy.ends, refl, is)
+    (fault : BulkFault) (ending : JobEnding) → CopiesTo target old new layout listing snapshot (Err fault) → ending ≡ Err (copy_failure fault)
+    → WritesLayout out out_old out_old target old new snapshot listing layout answer ending
+copy_stopped out out_old answer fault ending copy is = inr (copy_failure fault, copy.ends, refl, is)
 
 -- the copy of a listing, if its length or the failure is known
 module _ {O T : Type 0} (out : Ghosts O) (out_old : O) {target : Ghosts T} {old new : T} {layout : List ℕ} {listing : List Member} {snapshot : Bool}
     (answer : ℕ → Answer) (ending : JobEnding) where
   pub listing_failed : (why : Failure) → CopiesListing target old new layout listing snapshot (Err why) → ending ≡ Err why
-      → WritesLayout out.taken out.failed out_old out_old target.taken target.failed old new snapshot listing layout answer ending
+      → WritesLayout out out_old out_old target old new snapshot listing layout answer ending
   listing_failed why (Err fault, copy, same) ends = copy_stopped out out_old answer fault ending copy (ends ∙ same)
   listing_failed why (Ok count, copy, same) ends = absurd (cc)
 
   pub listing_done : {out_new : O} (count : ℕ) → CopiesListing target old new layout listing snapshot (Ok count)
-      → WritesAnswer out.taken out.failed out_old out_new (answer count) ending
-      → WritesLayout out.taken out.failed out_old out_new target.taken target.failed old new snapshot listing layout answer ending
+      → WritesAnswer out out_old out_new (answer count) ending
+      → WritesLayout out out_old out_new target old new snapshot listing layout answer ending
   listing_done count (Ok made, copy, same) does = let number : count ≡ made = (cc) in copy_written out answer made ending copy (rw number at does)
   listing_done count (Err fault, copy, same) does = absurd (cc)
 
@@ -77,7 +78,7 @@ pub compact_refused : {O T : Type 0} (out : Ghosts O) (out_old : O) (target : Gh
     → IsOpened job.extent file job.meta o
     → (faults : FileFaults) → AreCopyFaults job.extent job.kind file job.meta faults → (fault : SnapshotFault)
     → hash_refusal job.extent faults.hash ≡ Some fault
-    → CompactsTo out out_old out_old target old old job file (Err (Hash fault))
+    → DoesJob out out_old out_old target old old file (Compact job) (Err (Hash fault))
 compact_refused out out_old target old job file o to faults are fault is =
     let (meta, listing, lost, found, read) = refused_read job.extent file job.meta o to _ fault is in
     inl (meta, listing, lost, found, read, faults, are, rw is (refl, refl, refl))
@@ -86,7 +87,7 @@ module _ {O T : Type 0} (out : Ghosts O) (out_old : O) {target : Ghosts T} {old 
     (faults : FileFaults) (are : AreCopyFaults job.extent job.kind file job.meta faults) (right : hash_refusal job.extent faults.hash ≡ None)
     (ending : JobEnding) where
   pub compact_failed : (why : Failure) → CopiesRead target old new job file before after (Err why) → ending ≡ Err why
-      → CompactsTo out out_old out_old target old new job file ending
+      → DoesJob out out_old out_old target old new file (Compact job) ending
   compact_failed why read ends = elim read [
     | inl (listing, lost, is, known, copy) ↦
         inl (
@@ -103,9 +104,9 @@ module _ {O T : Type 0} (out : Ghosts O) (out_old : O) {target : Ghosts T} {old 
   ]
 
   pub compact_done : {out_new : O} (count : ℕ) → CopiesRead target old new job file before after (Ok count)
-      → WritesAnswer out.taken out.failed out_old out_new
+      → WritesAnswer out out_old out_new
       (copy_report faults (contents_lost after) (map found_view (contents_found before)) (length file) count) ending
-      → CompactsTo out out_old out_new target old new job file ending
+      → DoesJob out out_old out_new target old new file (Compact job) ending
   compact_done count read does = elim read [
     | inl (listing, lost, is, known, copy) ↦
         let told : contents_lost after ≡ lost = known in

@@ -1,6 +1,6 @@
 -- The answer of a job that may run out of memory on its way, whether its text was written whole or not.
 use Rattle.std.proofs.Common.{◌≡◌, ◌≢◌, IfErr, List, [], Ok, Err, Result, inl, inr, refl, ℕ}
-use Rattle.bolt_commands.proofs.Vocabulary.{Answer, JobEnding, Ghosts, IsPrinted, Json, MayFail, PrintsAnswer, ReportFault, Wrote, ending_by}
+use Rattle.bolt_commands.proofs.Vocabulary.{Answer, JobEnding, Ghosts, IsPrinted, Json, MayFail, PrintsAnswer, ReportFault, Wrote, end_report}
 use Rattle.bolt_commands.proofs.Vocabulary.{report_ending, ⊤}
 use Rattle.bolt_text.specs.declared.report_fault.ReportFault.TheVariants as report
 use Rattle.bolt_commands.specs.declared.failure.Failure.TheVariants as failure
@@ -15,7 +15,7 @@ module _ {S A : Type 0} {sink : Ghosts S} {old new : S} (memory : RunsOut) (X : 
   -- a call that may run out of memory after the last byte
   put_late : (X → (rest : List ℕ) → MayLeave memory rest) → (put : Result A ReportFault) → Wrote sink old new text (report_ending put)
       → IfErr put (FailsByWritingIf X)
-      → PrintsAnswer sink old new (IsPrinted memory text wanted) (ending_by put wanted)
+      → PrintsAnswer sink old new (IsPrinted memory text wanted) (end_report put wanted)
   put_late may (Ok x) written fault =
       record { answer = record { out = text; ending = wanted }; is = inl refl; does = inl (written.appends, written.failures, refl) }
   put_late may (Err report.Sink) written fault =
@@ -34,7 +34,7 @@ module _ {S A : Type 0} {sink : Ghosts S} {old new : S} (memory : RunsOut) (X : 
   -- one that doesn't give up after the last byte
   put_short : (X → (rest : List ℕ) → rest ≢ [] → MayLeave memory rest) → (put : Result A ReportFault) → Wrote sink old new text (report_ending put)
       → HaltsShort sink old new text (report_ending put) → IfErr put (FailsByWritingIf X)
-      → PrintsAnswer sink old new (IsPrinted memory text wanted) (ending_by put wanted)
+      → PrintsAnswer sink old new (IsPrinted memory text wanted) (end_report put wanted)
   put_short may (Ok x) written halts fault =
       record { answer = record { out = text; ending = wanted }; is = inl refl; does = inl (written.appends, written.failures, refl) }
   put_short may (Err report.Sink) written halts fault =
@@ -58,18 +58,18 @@ allowed (Err e) (inr full) = inr (full, tt)
 
 module _ {S A : Type 0} {sink : Ghosts S} {old new : S} (text : List ℕ) (wanted : JobEnding) (put : Result A ReportFault)
     (written : Wrote sink old new text (report_ending put)) where
-  pub ended_put : MayFail put → PrintsAnswer sink old new (IsPrinted Late text wanted) (ending_by put wanted)
+  pub ended_put : MayFail put → PrintsAnswer sink old new (IsPrinted Late text wanted) (end_report put wanted)
   ended_put fault = put_late Late ⊤ text wanted (λ x rest. tt) put written (allowed put fault)
 
   pub short_put : HaltsShort sink old new text (report_ending put) → MayFail put
-      → PrintsAnswer sink old new (IsPrinted Short text wanted) (ending_by put wanted)
+      → PrintsAnswer sink old new (IsPrinted Short text wanted) (end_report put wanted)
   short_put halts fault = put_short Short ⊤ text wanted (λ x rest some. some) put written halts (allowed put fault)
 
   -- if JSON alone needs memory
   pub json_put : (form : Form) → IfErr put (FailsByWritingJson form)
-      → PrintsAnswer sink old new (IsPrinted (in_json Late form) text wanted) (ending_by put wanted)
+      → PrintsAnswer sink old new (IsPrinted (in_json Late form) text wanted) (end_report put wanted)
   json_put form fault = put_late (in_json Late form) (form ≡ Json) text wanted (λ is rest. rw is tt) put written fault
 
   pub short_json_put : (form : Form) → HaltsShort sink old new text (report_ending put) → IfErr put (FailsByWritingJson form)
-      → PrintsAnswer sink old new (IsPrinted (in_json Short form) text wanted) (ending_by put wanted)
+      → PrintsAnswer sink old new (IsPrinted (in_json Short form) text wanted) (end_report put wanted)
   short_json_put form halts fault = put_short (in_json Short form) (form ≡ Json) text wanted (λ is rest some. rw is some) put written halts fault

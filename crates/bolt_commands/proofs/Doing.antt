@@ -2,7 +2,7 @@
 use Rattle.std.proofs.Common.{arith, ◌≡◌, ℕ, List, Result, Ok, Err, inl, inr, ap, refl}
 use Rattle.bolt_commands.proofs.Vocabulary.{Answer, Appends-nil, CheckFault, JobEnding, Failure, Ghosts, HasNoBucket, IsErrAnd, IsFailureOf}
 use Rattle.bolt_commands.proofs.Vocabulary.{IsReadUnder, IsUnread, LeadsTo, Meta, MetaChoice, Path, PrintsAnswer, SinkFault, Start, Wrote}
-use Rattle.bolt_commands.proofs.Vocabulary.{end_written, ending, refused}
+use Rattle.bolt_commands.proofs.Vocabulary.{end_write, ending, refused}
 use Rattle.bolt_commands.specs.declared.failure.Failure.TheVariants.{NoBucket}
 
 -- how a job ends that isn't done
@@ -15,7 +15,7 @@ ends_as (Err said) why is = ap Err is
 -- its text was written, or the sink failed
 pub answer_put : {S A : Type 0} {sink : Ghosts S} {old new : S} {IsWanted : Answer → Type 0} (answer : Answer) (put : Result A SinkFault)
     → IsWanted answer
-    → Wrote sink old new answer.out (ending put) → PrintsAnswer sink old new IsWanted (end_written put answer.ending)
+    → Wrote sink old new answer.out (ending put) → PrintsAnswer sink old new IsWanted (end_write put answer.ending)
 answer_put answer (Ok x) is put = record { answer = answer; is = is; does = inl (put.appends, put.failures, refl) }
 answer_put answer (Err fault) is put = record { answer = answer; is = is; does = inr (put.failures, put.appends, refl) }
 

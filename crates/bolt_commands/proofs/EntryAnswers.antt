@@ -2,7 +2,7 @@
 use Rattle.std.proofs.Common.{ℕ, IfErr, List, Ok, Result, inl, refl}
 use Rattle.bolt_commands.proofs.Vocabulary.{AreEntries, Bucket, ForEntries, Ghosts, IsOpenedBucket, IsEntriesAnswer, IsEntry, IsReadAnswer}
 use Rattle.bolt_commands.proofs.Vocabulary.{IsSizesAnswer, LeadsTo, LeafElement, Meta, MetaChoice, Path, PrintsAnswer, ReportFault, Start}
-use Rattle.bolt_commands.proofs.Vocabulary.{Wrote, bucket_checked, bucket_start, bytes_of, ending_by, meta_of, report_ending}
+use Rattle.bolt_commands.proofs.Vocabulary.{Wrote, bucket_checked, bucket_start, bytes_of, end_report, meta_of, report_ending}
 use Rattle.bolt_commands.proofs.{AtPaths.at_path, CutTexts.short_json_put, CutTexts.short_put, Doing.answer_as, ReadFiles.own_trees, ReadFiles.read_trees}
 use Rattle.bolt_report.specs.SizeLines.{AreSized, Sized, sizes_text}
 use Rattle.bolt_text.specs.{ReportEndings.FailsByWriting, ReportEndings.FailsByWritingJson, ReportEndings.HaltsShort, declared.forms.Form.Form}
@@ -33,7 +33,7 @@ module _ {file : List ℕ} {choice : MetaChoice} {path : Path} {bucket : Bucket}
         → ForEntries (bucket_checked bucket) (bucket_start bucket) (λ entries. Wrote sink old new (text entries) (report_ending put))
         → ForEntries (bucket_checked bucket) (bucket_start bucket) (λ entries. HaltsShort sink old new (text entries) (report_ending put))
         → IfErr put (FailsByWritingJson form)
-        → PrintsAnswer sink old new (IsReadAnswer file choice (IsEntriesAnswer file path form text)) (ending_by put (Ok 0))
+        → PrintsAnswer sink old new (IsReadAnswer file choice (IsEntriesAnswer file path form text)) (end_report put (Ok 0))
     entries_put text written short fault =
         let (start, entries, names, are, here) =
         promised (λ entries. Puts sink old new put (text entries)) (λ entries are. record { wrote = written entries are; halts = short entries are }) in
@@ -43,7 +43,7 @@ module _ {file : List ℕ} {choice : MetaChoice} {path : Path} {bucket : Bucket}
     pub sizes_put : ForEntries (bucket_checked bucket) (bucket_start bucket) (OfSizes form (λ text. Wrote sink old new text (report_ending put)))
         → ForEntries (bucket_checked bucket) (bucket_start bucket) (OfSizes form (λ text. HaltsShort sink old new text (report_ending put)))
         → IfErr put FailsByWriting
-        → PrintsAnswer sink old new (IsReadAnswer file choice (IsSizesAnswer file path form)) (ending_by put (Ok 0))
+        → PrintsAnswer sink old new (IsReadAnswer file choice (IsSizesAnswer file path form)) (end_report put (Ok 0))
     sizes_put written short fault =
         let (start, entries, names, are, here) =
         promised (OfSizes form (Puts sink old new put))

@@ -7,7 +7,7 @@ use Rattle.bolt_etcd.proofs.Exports.{revisions_rise, current_is_one, one_store, 
 use Rattle.bolt_tree.proofs.Exports.{root_starts}
 use Rattle.bolt_etcd.specs.{Store.Current.AreCurrent, Store.Newest.is_until, Store.Newest.until}
 use Rattle.bolt_etcd.specs.Store.Orders.{stored_key_cmp}
-use Rattle.bolt_etcd.specs.{Wire.Revisions.RevisionView, Store.Stores.revisions, Store.Stores.others}
+use Rattle.bolt_etcd.specs.{Wire.Revisions.RevisionView, Store.Stores.revisions, Store.Stores.unread_elements}
 use Rattle.bolt_etcd.specs.{Store.StoreBuckets.HasEntriesUnder, Store.StoreBuckets.IsStore, Store.StoreBuckets.StoreView}
 use Rattle.bolt_etcd.specs.{Check.StoreFaults.store_compacted}
 use Rattle.bolt_etcd.specs.Store.BucketNames.{key_bucket}
@@ -17,13 +17,13 @@ use Rattle.bolt_text.specs.declared.report_fault.ReportFault.TheVariants as repo
 use Rattle.bolt_tree.specs.BucketViews.{entries_of}
 use Rattle.bolt_commands.specs.Answers.{Late, in_json}
 use Rattle.bolt_text.specs.declared.forms.Form.{Form}
-use Rattle.bolt_commands.specs.EtcdAnswers.{IsAnswerAt, IsStoreAnswer, OfKeys, entries_ending, is_compacted, others_ending}
-use Rattle.bolt_commands.specs.{Private.Etcd.IsStoreRead, Private.Etcd.IsUnreadStore, Private.Etcd.end_of_revisions, declared.etcd_store.Store.Store}
+use Rattle.bolt_commands.specs.EtcdAnswers.{IsAnswerAt, IsStoreAnswer, OfKeys, entries_ending, is_compacted, end_unread}
+use Rattle.bolt_commands.specs.{Private.Etcd.IsStoreRead, Private.Etcd.IsUnreadStore, Private.Etcd.end_revisions, declared.etcd_store.Store.Store}
 use Rattle.bolt_commands.specs.declared.failure.Failure.TheVariants as failure
 use Rattle.bolt_commands.proofs.Vocabulary.{Answer, AreEntries, Checked, JobEnding, Failure, Ghosts, HasSoundTrees, IsBucketAt, IsEntry, IsPrinted}
 use Rattle.bolt_commands.proofs.Vocabulary.{IsErrAnd, IsReadAnswer, LeafElement, MayFail, Meta, MetaChoice, PrintsAnswer, ReportFault, Root_page}
-use Rattle.bolt_commands.proofs.Vocabulary.{Start, Wrote, Wrote-stop, bucket_checked, bucket_start, ending_by, meta_of, refused, report_ending}
-use Rattle.bolt_commands.proofs.Vocabulary.{reported}
+use Rattle.bolt_commands.proofs.Vocabulary.{Start, Wrote, Wrote-stop, bucket_checked, bucket_start, end_report, meta_of, refused, report_ending}
+use Rattle.bolt_commands.proofs.Vocabulary.{report_failure}
 use Rattle.bolt_commands.proofs.{CutTexts.ended_put, CutTexts.json_put, Doing.answer_as, Doing.answer_nothing, ReadFiles.read_trees}
 
 -- ---- the store of a file that is read
@@ -97,24 +97,24 @@ pub known_of : {P : ℕ → Type 0} (put : Result ℕ ReportFault) (n : ℕ) →
 known_of (Ok m) n known same = same m known
 known_of (Err fault) n known same = tt
 
-ends_counted : (put : Result ℕ ReportFault) (n : ℕ) → IfOk put (λ m. m ≡ n) → end_of_revisions put ≡ ending_by put (others_ending n)
+ends_counted : (put : Result ℕ ReportFault) (n : ℕ) → IfOk put (λ m. m ≡ n) → end_revisions put ≡ end_report put (end_unread n)
 ends_counted (Ok m) n same = rw same refl
 ends_counted (Err fault) n same = refl
 
 module _ {S : Type 0} {sink : Ghosts S} {old new : S} (text : List ℕ) (entries : List LeafElement) (put : Result ℕ ReportFault)
     (written : Wrote sink old new text (report_ending put))
-    (knows : IfOk put (λ m. m ≡ counted 0 (length (others entries)))) where
+    (knows : IfOk put (λ m. m ≡ counted 0 (length (unread_elements entries)))) where
   pub counted_put : (form : Form) → IfErr put (FailsByWritingJson form)
-      → PrintsAnswer sink old new (IsPrinted (in_json Late form) text (entries_ending entries)) (end_of_revisions put)
-  counted_put form fault = rw (ends_counted put (counted 0 (length (others entries))) knows) (json_put text (entries_ending entries) put written form fault)
+      → PrintsAnswer sink old new (IsPrinted (in_json Late form) text (entries_ending entries)) (end_revisions put)
+  counted_put form fault = rw (ends_counted put (counted 0 (length (unread_elements entries))) knows) (json_put text (entries_ending entries) put written form fault)
 
-  pub counted_ended : MayFail put → PrintsAnswer sink old new (IsPrinted Late text (entries_ending entries)) (end_of_revisions put)
-  counted_ended fault = rw (ends_counted put (counted 0 (length (others entries))) knows) (ended_put text (entries_ending entries) put written fault)
+  pub counted_ended : MayFail put → PrintsAnswer sink old new (IsPrinted Late text (entries_ending entries)) (end_revisions put)
+  counted_ended fault = rw (ends_counted put (counted 0 (length (unread_elements entries))) knows) (ended_put text (entries_ending entries) put written fault)
 
 -- a text that stopped in its first part
 pub first_cut : {S : Type 0} {sink : Ghosts S} {old new : S} (first second : List ℕ) (wanted : JobEnding) (e : ReportFault)
     → Wrote sink old new first (report_ending {A = ℕ} (Err e))
-    → MayFail {A = ℕ} (Err e) → PrintsAnswer sink old new (IsPrinted Late (first ++ second) wanted) (Err (reported e))
+    → MayFail {A = ℕ} (Err e) → PrintsAnswer sink old new (IsPrinted Late (first ++ second) wanted) (Err (report_failure e))
 first_cut first second wanted report.Sink written fault = ended_put {A = ℕ} (first ++ second) wanted (Err report.Sink) (Wrote-stop second written) fault
 first_cut first second wanted report.NoMemory written fault =
     ended_put {A = ℕ} (first ++ second) wanted (Err report.NoMemory) (Wrote-stop_halted second written) fault

@@ -1,7 +1,7 @@
 -- The pages that are found, and the joined listing.
 use Rattle.std.proofs.Common.{◌≡◌, ℕ, List, [], ◌∷◌, Option, ap, ap₂, map, refl, sym}
 use Rattle.std.proofs.lemmas.List.Elements.{All-head, All-tail}
-use Rattle.bolt_commands.proofs.Vocabulary.{All, AreFoundPages, FoundPage, FoundView, IsFoundLeaf, IsJoined, IsJoinedOf, IsSalvaged, IsSearchOf}
+use Rattle.bolt_commands.proofs.Vocabulary.{All, AreFoundPages, FoundPage, FoundView, IsFoundLeaf, IsJoined, IsJoinedOf, IsJoinedWith, IsSearchOf}
 use Rattle.bolt_commands.proofs.Vocabulary.{LostAndFound, Member, Meta, MetaChoice, all_lost, found_page, found_view, leaves_of}
 use Rattle.bolt_format.specs.Pages.{PageView}
 use Rattle.bolt_recover.specs.{Found.AreFound, Found.found_numbers, ShownFound.IsFoundView, declared.joined_listing.JoinedListing.JoinedListing}
@@ -33,15 +33,15 @@ module _ (file : List ℕ) (meta : Meta) where
 -- ---- the joined listing
 
 -- of a file that was searched
-pub salvaged : {file : List ℕ} {choice : MetaChoice} {both : LostAndFound} {j : JoinedListing} (searched : IsSearchOf file choice both)
-    (joins : IsJoinedOf both j) (listing : List Member)
-    → IsJoined file both.meta listing → IsSalvaged file both.meta listing (all_lost both) (map found_view both.found.items)
-salvaged {file} {both = both} searched joins listing is = record {
+pub joined_with : {file : List ℕ} {choice : MetaChoice} {searched : LostAndFound} {j : JoinedListing} (facts : IsSearchOf file choice searched)
+    (joins : IsJoinedOf searched j) (listing : List Member)
+    → IsJoined file searched.meta listing → IsJoinedWith file searched.meta listing (all_lost searched) (map found_view searched.found.items)
+joined_with {file} {searched = searched} facts joins listing is = record {
   joins = is;
-  loses = searched.lost;
-  finds = are_pages file both.meta both.found.items searched.found searched.views;
-  apart = λ more. rw searched.bytes at (joins.apart (λ none. more (ap (map found_view) none)));
-  some = λ x lost none. joins.some x lost (none_found both.found.items none);
+  loses = facts.lost;
+  finds = are_pages file searched.meta searched.found.items facts.found facts.views;
+  apart = λ more. rw facts.bytes at (joins.apart (λ none. more (ap (map found_view) none)));
+  some = λ x lost none. joins.some x lost (none_found searched.found.items none);
 }
   where
     none_found : (fs : List FoundPage) → map found_view fs ≡ [] → fs ≡ []

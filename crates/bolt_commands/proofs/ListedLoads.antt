@@ -1,6 +1,6 @@
 -- What `list` prints of a file is loaded as the listing of the file.
-use Rattle.std.proofs.Common.{◌≡◌, ◌∙◌, ◌<◌, ℕ, List, [], ◌∷◌, Option, Ok, ap, arith, inl, inr, length, subst, sym}
-use Rattle.bolt_commands.proofs.Vocabulary.{Answer, JobEnding, Sound, HasSoundTrees, IsListedAnswer, IsListing, IsListingText, IsPrinted}
+use Rattle.std.proofs.Common.{◌≡◌, ◌∙◌, ◌<◌, ℕ, List, [], ◌∷◌, Ok, ap, arith, inl, inr, length, subst, sym}
+use Rattle.bolt_commands.proofs.Vocabulary.{Answer, Ghosts, JobEnding, Sound, HasSoundTrees, IsListedAnswer, IsListing, IsListingText, IsPrinted}
 use Rattle.bolt_commands.proofs.Vocabulary.{IsLoadFault, IsOfOneTree, IsReadUnder, Loads, LoadsListing, Member, Meta, MetaChoice, Rises}
 use Rattle.bolt_commands.proofs.Vocabulary.{filter_all, listing_lines, member_cmp, not, part_below, listing_part_text, path_cmp, rest_from}
 use Rattle.bolt_commands.proofs.Vocabulary.{text_members}
@@ -43,12 +43,11 @@ module _ (below : Below) where
   printed listing ending answer (inl is) good = ap (λ (a : Answer). a.out) is ∙ whole_text listing
   printed listing ending answer (inr (front, rest, parts, late, is)) good = absurd (let bad = rw is at good in cc)
 
-  module _ {O T : Type 0} (out_taken : O → Option (List ℕ)) (out_failed : O → ℕ) (target_taken : T → Option (List ℕ)) (target_failed : T → ℕ) where
+  module _ {O T : Type 0} (out : Ghosts O) (target : Ghosts T) where
     abbrev LoadsText : List Member → List ℕ → Type 0
     LoadsText listing text = (out_old out_new : O) (target_old target_new : T) (page_size sequence : ℕ) (kind : CopyKind) (ending : JobEnding)
-        → Loads out_taken out_failed out_old out_new target_taken target_failed target_old target_new text page_size sequence kind ending
-        → LoadsListing out_taken out_failed out_old out_new target_taken target_failed target_old target_new listing text page_size sequence
-        kind ending
+        → Loads out out_old out_new target target_old target_new text page_size sequence kind ending
+        → LoadsListing out out_old out_new target target_old target_new listing text page_size sequence kind ending
 
     some_loads : (member : Member) (listing : List Member) (text : List ℕ) → IsListingText text → text_members text ≡ member ∷ listing
         → LoadsText (member ∷ listing) text

@@ -41,20 +41,20 @@ module _ (c : Checking) where
   recovered_lost meta losses gaps answer under keeps lost known answers =
       inl (meta, parts losses, gaps, [], under, (keeps, lost), all_gaps c.input.file.now meta gaps known, refl, answers)
 
-  pub searched_lost : (both : LostAndFound) (gaps : List PageGapView) (answer : Answer) → IsSearchOf c.input.file.now c.choice both
-      → ForGaps c.input.file.now both.meta (λ all. gaps ≡ all)
-      → AnswersWith (all_lost both) gaps (map found_view both.found.items) answer
+  pub searched_lost : (searched : LostAndFound) (gaps : List PageGapView) (answer : Answer) → IsSearchOf c.input.file.now c.choice searched
+      → ForGaps c.input.file.now searched.meta (λ all. gaps ≡ all)
+      → AnswersWith (all_lost searched) gaps (map found_view searched.found.items) answer
       → AnswersLosses c FoundPages answer
-  searched_lost both gaps answer is known answers =
+  searched_lost searched gaps answer is known answers =
       inl (
-        both.meta,
-        all_lost both,
+        searched.meta,
+        all_lost searched,
         gaps,
-        map found_view both.found.items,
+        map found_view searched.found.items,
         is.under,
         is.lost,
-        all_gaps c.input.file.now both.meta gaps known,
-        are_pages c.input.file.now both.meta both.found.items is.found is.views,
+        all_gaps c.input.file.now searched.meta gaps known,
+        are_pages c.input.file.now searched.meta searched.found.items is.found is.views,
         answers,
       )
 

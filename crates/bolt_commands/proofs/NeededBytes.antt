@@ -1,7 +1,7 @@
 -- A job that shows nothing but metas does the same on any two files with the same metas.
 use Rattle.std.proofs.Common.{◌≡◌, ◌↔◌, inl, inr, ℕ, List, Option, None, Some, true}
-use Rattle.bolt_commands.proofs.Vocabulary.{Answer, DoesJob, JobEnding, FigureForm, HasMetaFault, HasSlotFault, IsActive, IsInSlot, IsInfoAnswer, Job}
-use Rattle.bolt_commands.proofs.Vocabulary.{Meta, MetaFault, Slot}
+use Rattle.bolt_commands.proofs.Vocabulary.{Answer, DoesJob, JobEnding, FigureForm, Ghosts, HasMetaFault, HasSlotFault, IsActive, IsInSlot, IsInfoAnswer}
+use Rattle.bolt_commands.proofs.Vocabulary.{Job, Meta, MetaFault, Slot}
 use Rattle.bolt_job.specs.Jobs.{needs_metas_alone}
 use Rattle.bolt_job.specs.declared.job.Job.TheVariants as job
 
@@ -30,11 +30,10 @@ back file other s = record {
   slot_fault = λ slot fault. ((s.slot_fault slot fault).1, (s.slot_fault slot fault).0);
 }
 
-module _ {O T : Type 0} (out_taken : O → Option (List ℕ)) (out_failed : O → ℕ) (target_taken : T → Option (List ℕ)) (target_failed : T → ℕ)
-    (part file : List ℕ) (same : SameMetas part file) where
+module _ {O T : Type 0} (out : Ghosts O) (target : Ghosts T) (part file : List ℕ) (same : SameMetas part file) where
   pub enough : (j : Job) → needs_metas_alone j ≡ true → (out_old out_new : O) (target_old target_new : T) (ending : JobEnding)
-      → DoesJob out_taken out_failed out_old out_new target_taken target_failed target_old target_new part j ending
-      ↔ DoesJob out_taken out_failed out_old out_new target_taken target_failed target_old target_new file j ending
+      → DoesJob out out_old out_new target target_old target_new part j ending
+      ↔ DoesJob out out_old out_new target target_old target_new file j ending
   enough (job.Info j) is out_old out_new target_old target_new ending = (
     (λ h. (h.0, answer_there part file j.slot j.form h.0 same h.1, h.2, h.3)),
     (λ h. (h.0, answer_there file part j.slot j.form h.0 (back part file same) h.1, h.2, h.3)),

@@ -3,15 +3,15 @@ use Rattle.std.proofs.Common.{◌≡◌, ℕ, Bool, Err, IfErr, IfOk, List, None
 use Rattle.std.specs.{Borrow.Bor, Option.IfNone, Prelude.IfSome}
 use Rattle.bolt_commands.proofs.Vocabulary.{AreLosses, Contains, JobEnding, Failure, ForLosses, Ghosts, IsErrAnd, IsRecovered, IsRecoveryOf}
 use Rattle.bolt_commands.proofs.Vocabulary.{IsMetasFault, LossView, Losses, MayFail, Member, MetaChoice, OnOk, OtherMeta, Path, Shortfall}
-use Rattle.bolt_commands.proofs.Vocabulary.{PrintsAnswer, ReportFault, Rises, Value, Wrote, ending_by, has_bucket, has_losses, has_recovered}
-use Rattle.bolt_commands.proofs.Vocabulary.{shortfall_ending, member_cmp, parts, owned_path, recovery_file, recovery_left, recovery_meta}
-use Rattle.bolt_commands.proofs.Vocabulary.{report_ending, reported, shortfall, value_shown}
+use Rattle.bolt_commands.proofs.Vocabulary.{PrintsAnswer, ReportFault, Rises, Value, Wrote, end_report, has_bucket, has_losses, has_recovered}
+use Rattle.bolt_commands.proofs.Vocabulary.{end_listing, member_cmp, parts, owned_path, recovery_file, recovery_left, recovery_meta}
+use Rattle.bolt_commands.proofs.Vocabulary.{report_ending, report_failure, shortfall, value_shown}
 use Rattle.bolt_commands.proofs.{CutTexts.ended_put, CutTexts.short_json_put, Doing.answer_as, Doing.answer_nothing, OpenedReads.recovered_read}
 use Rattle.bolt_check.specs.declared.check_fault.CheckFault.TheVariants as check
 use Rattle.bolt_commands.specs.Answers.{Answer}
 use Rattle.bolt_commands.specs.KeyAnswers.{IsNamesAnswer, IsRecoveredAnswer, IsRecoveredValue, names_ending, no_bucket, no_key, no_value}
 use Rattle.bolt_report.specs.{AtPaths.HoldsNow, declared.at_path.AtPath.AtPath}
-use Rattle.bolt_commands.specs.{Private.Recovered.bucket_ending, Private.Recovered.value_or_why, declared.failure.Failure.TheVariants.Memory}
+use Rattle.bolt_commands.specs.{Private.Recovered.end_names, Private.Recovered.value_or_why, declared.failure.Failure.TheVariants.Memory}
 use Rattle.bolt_text.specs.{ReportEndings.FailsByWritingJson, ReportEndings.HaltsShort, declared.forms.Form.Form}
 use Rattle.bolt_job.specs.declared.bucket_commands.GetJob.{GetJob}
 use Rattle.bolt_recover.specs.declared.recovery.Recovery.{Recovery}
@@ -25,7 +25,7 @@ recovered_none file choice IsWanted result said = answer_nothing Memory result (
 
 ended_so : (path : Path) (found : Bool) (listing : List Member) (after losses : List LossView) (other : Option OtherMeta)
     → found ≡ has_bucket path listing → after ≡ losses
-    → names_ending path listing (shortfall (parts losses) other) ≡ bucket_ending found (shortfall (parts after) other)
+    → names_ending path listing (shortfall (parts losses) other) ≡ end_names found (shortfall (parts after) other)
 ended_so path found listing after losses other is lost = rw (is, lost) refl
 
 module _ {file : List ℕ} {choice : MetaChoice} (r : Recovery) (of : IsRecoveryOf file choice r) (other : Option OtherMeta)
@@ -43,8 +43,8 @@ module _ {file : List ℕ} {choice : MetaChoice} (r : Recovery) (of : IsRecovery
 
   -- how the job ends
   abbrev pub end_of_names : Result Bool ReportFault → List LossView → JobEnding
-  end_of_names (Ok found) losses = bucket_ending found (shortfall (parts losses) other)
-  end_of_names (Err e) losses = Err (reported e)
+  end_of_names (Ok found) losses = end_names found (shortfall (parts losses) other)
+  end_of_names (Err e) losses = Err (report_failure e)
 
   abbrev Lists : List Member → Type 0
   Lists listing = IsRecovered (recovery_file r) (recovery_meta r) listing
@@ -105,7 +105,7 @@ pub value_put : {S A : Type 0} {sink : Ghosts S} {old new : S} (job : GetJob) (l
     → Wrote sink old new (value_shown job.form job.no_newline value) (report_ending put)
     → HaltsShort sink old new (value_shown job.form job.no_newline value) (report_ending put)
     → IfErr put (FailsByWritingJson job.form)
-    → PrintsAnswer sink old new (IsRecoveredValue job listing lacking) (ending_by put (shortfall_ending lacking))
+    → PrintsAnswer sink old new (IsRecoveredValue job listing lacking) (end_report put (end_listing lacking))
 value_put job listing lacking value holds put wrote halts fault =
-    answer_as (short_json_put (value_shown job.form job.no_newline value) (shortfall_ending lacking) put wrote job.form halts fault)
+    answer_as (short_json_put (value_shown job.form job.no_newline value) (end_listing lacking) put wrote job.form halts fault)
     (λ answer shown. inl (value, holds, shown))

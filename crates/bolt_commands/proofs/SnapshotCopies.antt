@@ -2,8 +2,8 @@
 use Rattle.std.proofs.Common.{◌≡◌, ◌≢◌, ◌∙◌, ◌+◌, ◌<◌, ℕ, List, [], Bool, true, false, arith, length, length-append, Option, Result, Ok, Err, ap, inl}
 use Rattle.std.proofs.Common.{inr}
 use Rattle.std.proofs.Common.{refl, subst, sym, rules}
-use Rattle.bolt_commands.proofs.Vocabulary.{Appends, AppendsProperPrefix, AppendsProperPrefix-first, BulkFault, EndsCopy, HashesSince, Holds256}
-use Rattle.bolt_commands.proofs.Vocabulary.{IsErrAnd, IsOk, Keeps, OnOk, Sha256, StopsShort, cases_lt, copied, copy_of, length-sha256, sha256}
+use Rattle.bolt_commands.proofs.Vocabulary.{Appends, AppendsProperPrefix, AppendsProperPrefix-first, BulkFault, EndsCopy, Ghosts, HashesSince, Holds256}
+use Rattle.bolt_commands.proofs.Vocabulary.{IsErrAnd, IsOk, Keeps, OnOk, Sha256, StopsShort, cases_lt, copy_failure, copy_of, length-sha256, sha256}
 use Rattle.bolt_commands.proofs.Vocabulary.{too_many}
 use Rattle.bolt_commands.proofs.HashLemmas.{short_with_hash, whole_with_hash}
 use Rattle.bolt_bulk.specs.{Compacting.Copies, declared.members_copy.Done.Done}
@@ -15,57 +15,59 @@ proper_copy : (snapshot : Bool) (old new : Option (List ℕ)) (layout : List ℕ
 proper_copy false old new layout short = short
 proper_copy true old new layout short = AppendsProperPrefix-first old new layout (sha256 layout) short
 
-module _ {T : Type 0} (taken : T → Option (List ℕ)) (failed : T → ℕ) (old mid : T) (layout : List ℕ) where
+module _ {T : Type 0} (target : Ghosts T) (old mid : T) (layout : List ℕ) where
   -- the layout isn't whole
-  stops_at : (snapshot : Bool) (e : BulkFault) → Copies taken failed old mid layout (Err e)
-      → StopsShort taken failed old mid layout (copy_of snapshot layout) (copied e)
+  stops_at : (snapshot : Bool) (e : BulkFault) → Copies target.taken target.failed old mid layout (Err e)
+      → StopsShort target old mid layout (copy_of snapshot layout) (copy_failure e)
   stops_at snapshot bulk.Memory a =
-      record { short = proper_copy snapshot (taken old) (taken mid) layout a.short; why = a.other (λ bad. cc); large = λ h. (a.refuses h).1 }
+      record { short = proper_copy snapshot _ _ layout a.short; why = a.other (λ bad. cc); large = λ h. (a.refuses h).1 }
   stops_at snapshot bulk.TooLarge a =
-      record { short = proper_copy snapshot (taken old) (taken mid) layout a.short; why = (a.large refl, a.other (λ bad. cc)); large = λ h. (a.refuses h).1 }
+      record { short = proper_copy snapshot _ _ layout a.short; why = (a.large refl, a.other (λ bad. cc)); large = λ h. (a.refuses h).1 }
   stops_at snapshot bulk.Sink a =
-      record { short = proper_copy snapshot (taken old) (taken mid) layout a.short; why = a.failure refl; large = λ h. (a.refuses h).1 }
+      record { short = proper_copy snapshot _ _ layout a.short; why = a.failure refl; large = λ h. (a.refuses h).1 }
 
   pub layout_stops : (snapshot : Bool) (copy : Result Done BulkFault) (result : Result ℕ BulkFault) (e : BulkFault) → copy ≡ Err e
-      → Copies taken failed old mid layout copy → IsErrAnd result (λ f. f ≡ e) → EndsCopy taken failed old mid layout snapshot result
+      → Copies target.taken target.failed old mid layout copy → IsErrAnd result (λ f. f ≡ e) → EndsCopy target old mid layout snapshot result
   layout_stops snapshot copy (Ok n) e is copies ends = absurd ends
   layout_stops snapshot copy (Err f) e is copies ends =
-      stops_at snapshot f (subst (λ (r : Result Done BulkFault). Copies taken failed old mid layout r) (is ∙ ap Err (sym ends)) copies)
+      stops_at snapshot f (subst (λ (r : Result Done BulkFault). Copies target.taken target.failed old mid layout r) (is ∙ ap Err (sym ends)) copies)
 
-  module _ (copy : Result Done BulkFault) (done : Done) (is : copy ≡ Ok done) (copies : Copies taken failed old mid layout copy) where
-    at_ok : Copies taken failed old mid layout (Ok done)
-    at_ok = subst (λ (r : Result Done BulkFault). Copies taken failed old mid layout r) is copies
+  module _ (copy : Result Done BulkFault) (done : Done) (is : copy ≡ Ok done) (copies : Copies target.taken target.failed old mid layout copy) where
+    at_ok : Copies target.taken target.failed old mid layout (Ok done)
+    at_ok = subst (λ (r : Result Done BulkFault). Copies target.taken target.failed old mid layout r) is copies
 
     -- none is written whole that has too many bytes
     small : length layout < too_many
     small = elim (cases_lt (length layout) too_many) [ inl less ↦ less | inr more ↦ absurd (search (rules, (at_ok.refuses more).0)) ]
 
     -- the copy is its layout
-    pub layout_whole : (snapshot : Bool) → snapshot ≡ false → EndsCopy taken failed old mid layout snapshot (Ok done.bytes)
+    pub layout_whole : (snapshot : Bool) → snapshot ≡ false → EndsCopy target old mid layout snapshot (Ok done.bytes)
     layout_whole snapshot plain =
-        subst (λ (s : Bool). EndsCopy taken failed old mid layout s (Ok done.bytes)) (sym plain)
+        subst (λ (s : Bool). EndsCopy target old mid layout s (Ok done.bytes)) (sym plain)
         (record { small = small; all = at_ok.all; sound = at_ok.sound; long = at_ok.bytes })
 
     module _ (hash : Sha256) (digest : List ℕ) (ends : (m : List ℕ) → Holds256 hash m → digest ≡ sha256 m)
-        (since : failed mid ≡ 0 → ∥ HashesSince (taken old) (taken mid) hash ∥₁) (new : T) where
+        (since : target.failed mid ≡ 0 → ∥ HashesSince (target.taken old) (target.taken mid) hash ∥₁) (new : T) where
       -- the layout is whole, and its hash isn't
       pub hash_stops : (result : Result ℕ BulkFault) → IsErrAnd result (λ f. f ≡ bulk.Sink)
-          → (digest ≢ [] → AppendsProperPrefix (taken mid) (taken new) digest)
-          → (0 < failed mid → Keeps (taken mid) (taken new)) → 0 < failed new → EndsCopy taken failed old new layout true result
+          → (digest ≢ [] → AppendsProperPrefix (target.taken mid) (target.taken new) digest)
+          → (0 < target.failed mid → Keeps (target.taken mid) (target.taken new)) → 0 < target.failed new → EndsCopy target old new layout true result
       hash_stops (Ok k) gives put keeps fails = absurd gives
       hash_stops (Err f) gives put keeps fails =
-          subst (λ (e : BulkFault). StopsShort taken failed old new layout (copy_of true layout) (copied e)) (sym gives) (record {
-            short = short_with_hash (taken old) (taken mid) (taken new) (failed mid) layout hash digest ends at_ok.all since put keeps;
+          subst (λ (e : BulkFault). StopsShort target old new layout (copy_of true layout) (copy_failure e)) (sym gives) (record {
+            short =
+                short_with_hash (target.taken old) (target.taken mid) (target.taken new) (target.failed mid) layout hash digest ends at_ok.all since put keeps;
             why = fails;
             large = λ h. absurd (omega (arith, small));
           })
 
       -- both are whole
-      pub hash_whole : (k : ℕ) → Appends (taken mid) (taken new) digest → (0 < failed mid → ⊥) → failed new ≡ failed mid
-          → (done.bytes < too_many → k ≡ done.bytes + 32) → EndsCopy taken failed old new layout true (Ok k)
+      pub hash_whole : (k : ℕ) → Appends (target.taken mid) (target.taken new) digest → (0 < target.failed mid → ⊥)
+          → target.failed new ≡ target.failed mid → (done.bytes < too_many → k ≡ done.bytes + 32) → EndsCopy target old new layout true (Ok k)
       hash_whole k put healthy sound counts = record {
         small = small;
-        all = whole_with_hash (taken old) (taken mid) (taken new) (failed mid) layout hash digest ends at_ok.all since put healthy;
+        all =
+            whole_with_hash (target.taken old) (target.taken mid) (target.taken new) (target.failed mid) layout hash digest ends at_ok.all since put healthy;
         sound = sound ∙ at_ok.sound;
         long =
             counts (subst (λ n. n < too_many) (sym at_ok.bytes) small) ∙ ap (λ n. n + 32) at_ok.bytes

@@ -2,11 +2,11 @@
 -- does what `--recover` does.
 use Rattle.std.proofs.Common.{◌≡◌, ◌≢◌, ◌↔◌, ◌*◌, ◌<◌, ◌^◌, ℕ, Bool, false, List, [], Option, ap, arith, inl, inr, length, refl, rules, subst, sym}
 use Rattle.std.proofs.Common.{◌∙◌}
-use Rattle.bolt_commands.proofs.Vocabulary.{Active, Answer, AreLosses, Assumed, CheckFault, JobEnding, Extent, Failure, Sound, FoundView}
+use Rattle.bolt_commands.proofs.Vocabulary.{Active, Answer, AreLosses, Assumed, CheckFault, JobEnding, Extent, Failure, Ghosts, Sound, FoundView}
 use Rattle.bolt_commands.proofs.Vocabulary.{HasSoundTrees, InSlot, IsActive, IsFailureOf, IsInSlot, IsListedAnswer, IsListing, IsMetaOf, IsMetasFault}
-use Rattle.bolt_commands.proofs.Vocabulary.{IsReadTo, IsReadUnder, IsRecovered, IsSalvaged, IsUnreadTo, ListForm, LossView, Losses, LostView}
+use Rattle.bolt_commands.proofs.Vocabulary.{IsReadTo, IsReadUnder, IsRecovered, IsJoinedWith, IsUnreadTo, ListForm, LossView, Losses, LostView}
 use Rattle.bolt_commands.proofs.Vocabulary.{MakesCopy, Member, Meta, MetaChoice, OtherMeta, PageSize, Path, Slot, bad_hash, everything, has_losses}
-use Rattle.bolt_commands.proofs.Vocabulary.{hash_refusal, is_snapshot, parts, props, unlisted, ∥∥₁_elim}
+use Rattle.bolt_commands.proofs.Vocabulary.{hash_refusal, is_snapshot, parts, props, join_failure, ∥∥₁_elim}
 use Rattle.bolt_check.specs.declared.check_fault.CheckFault.TheVariants as check
 use Rattle.bolt_commands.specs.declared.failure.Failure.TheVariants as failure
 use Rattle.bolt_commands.proofs.OtherMetas.{found_metas, metas_found, no_hidden, none_hidden}
@@ -14,8 +14,8 @@ use Rattle.bolt_commands.specs.Alike.{HidesNoState}
 use Rattle.bolt_commands.proofs.{ReadFiles.no_accounts, ReadFiles.read_meta, SoundReads.NamesOne, SoundReads.has_meta, SoundReads.keeps_not_loses}
 use Rattle.bolt_commands.proofs.{SoundReads.keeps_root, SoundReads.unread, SoundReads.unrecovered}
 use Rattle.bolt_job.specs.{declared.choices.CopyKind.CopyKind, declared.choices.Extent.TheVariants.FoundPages}
-use Rattle.bolt_recover.specs.{Found.AreFound, JoinRefusals.IsJoinRefusal, Lost.IsAllLost, declared.recover_fault.RecoverFault.RecoverFault}
-use Rattle.bolt_recover.specs.declared.recover_fault.RecoverFault.TheVariants as recover
+use Rattle.bolt_recover.specs.{Found.AreFound, JoinRefusals.IsJoinRefusal, Lost.IsAllLost, declared.join_fault.JoinFault.JoinFault}
+use Rattle.bolt_recover.specs.declared.join_fault.JoinFault.TheVariants as join
 use Rattle.bolt_repair.specs.{Readable.readable, Repaired.IsRepaired, Repaired.MakesMeta, Repairs.meta_path}
 use Rattle.bolt_tree.specs.{InBuckets.members_in, Merges.merge}
 
@@ -63,12 +63,12 @@ module _ {file : List ℕ} {meta : Meta} {from to : Extent} {wanted named : Meta
       inl (meta, listing, lost, found, (r.read other listing lost found read).1, lacking, (slot, r.metas slot are, is), ended)
   listed r form path start answer (inr (why, unread, is)) = inr (why, r.unread why unread, is)
 
-  module _ {O T : Type 0} (out_taken : O → Option (List ℕ)) (out_failed : O → ℕ) (target_taken : T → Option (List ℕ)) (target_failed : T → ℕ)
-      (out_old out_new : O) (target_old target_new : T) (size : Option PageSize) (kind : CopyKind) (ending : JobEnding) where
+  module _ {O T : Type 0} (out : Ghosts O) (target : Ghosts T) (out_old out_new : O) (target_old target_new : T) (size : Option PageSize)
+      (kind : CopyKind) (ending : JobEnding) where
     copied : Reads file meta from to wanted named
         → hash_refusal from (bad_hash (is_snapshot kind) file) ≡ hash_refusal to (bad_hash (is_snapshot kind) file)
-        → MakesCopy out_taken out_failed out_old out_new target_taken target_failed target_old target_new file wanted size kind from ending
-        → MakesCopy out_taken out_failed out_old out_new target_taken target_failed target_old target_new file named size kind to ending
+        → MakesCopy out out_old out_new target target_old target_new file wanted size kind from ending
+        → MakesCopy out out_old out_new target target_old target_new file named size kind to ending
     copied r same (inl (other, listing, lost, found, read, faults, are, writes)) = grind arith
     copied r same (inr (why, unread, none)) = inr (why, r.unread why unread, none)
 
@@ -128,9 +128,9 @@ module _ (b : Below) (file : List ℕ) (meta : Meta) (trees : HasSoundTrees file
   -- ---- if nothing is lost, nothing is found
 
   module _ (choice : MetaChoice) (shown : IsMetaOf file choice meta) (few : length file < 10 ^ 16 * meta.page_size) where
-    salvaged : (listing : List Member) (lost : LostView) (found : List FoundView) → IsSalvaged file meta listing lost found
+    joined_with : (listing : List Member) (lost : LostView) (found : List FoundView) → IsJoinedWith file meta listing lost found
         → IsReadTo Losses file choice meta listing lost found
-    salvaged listing lost found is =
+    joined_with listing lost found is =
         let joins = is.joins in
         let none = b.none_found file meta joins.found no_losses joins.are_found in
         let same : listing ≡ joins.recovered = rw none at joins.joined in
@@ -141,26 +141,26 @@ module _ (b : Below) (file : List ℕ) (meta : Meta) (trees : HasSoundTrees file
           rw (b.none_found file meta numbers no_losses are) at pages,
         )
 
-    unsalvaged : (found : List ℕ) (fault : RecoverFault) (why : Failure) → AreFound file meta found → IsJoinRefusal file meta found fault
-        → why ≡ unlisted fault
+    unjoined : (found : List ℕ) (fault : JoinFault) (why : Failure) → AreFound file meta found → IsJoinRefusal file meta found fault
+        → why ≡ join_failure fault
         → why ≡ failure.Memory
-    unsalvaged found (recover.Rootless x) why are (none, loses) same = absurd (∥∥₁_elim loses (hlevel props) (keeps_not_loses file meta trees meta x refl))
-    unsalvaged found recover.Exists why are (some, has) same = absurd (some (b.none_found file meta found no_losses are))
-    unsalvaged found recover.TooManyPages why are large same = absurd (omega (arith, few, large))
-    unsalvaged found recover.Memory why are is same = same
+    unjoined found (join.Rootless x) why are (none, loses) same = absurd (∥∥₁_elim loses (hlevel props) (keeps_not_loses file meta trees meta x refl))
+    unjoined found join.Exists why are (some, has) same = absurd (some (b.none_found file meta found no_losses are))
+    unjoined found join.TooManyPages why are large same = absurd (omega (arith, few, large))
+    unjoined found join.Memory why are is same = same
 
     found_there : Reads file meta FoundPages Losses choice choice
     found_there = record {
       read = λ other listing lost found (is, all).
           (let same = names_one b file choice meta shown other is in
-          (same, salvaged listing lost found (subst (λ (m : Meta). IsSalvaged file m listing lost found) same all)));
+          (same, joined_with listing lost found (subst (λ (m : Meta). IsJoinedWith file m listing lost found) same all)));
       unread = λ why unread. (
         check.Memory,
         tt,
         elim unread [
           | inl (other, is, (found, fault, are, refusal, same)) ↦
               let one = names_one b file choice meta shown other is in
-              unsalvaged found fault why (rw one at are) (rw one at refusal) same
+              unjoined found fault why (rw one at are) (rw one at refusal) same
           | inr (fault, none, same) ↦ absurd (has_meta file meta trees choice fault shown none)
         ],
       );
@@ -172,7 +172,7 @@ module _ (b : Below) (file : List ℕ) (meta : Meta) (trees : HasSoundTrees file
       read = λ other listing lost found ((is, keeps), recovered, (losses, are, told), none).
           (let same = names_one b file choice meta shown other is in
           let empty : lost ≡ parts [] = told ∙ ap parts (b.none_lost file meta losses trees (subst (λ (m : Meta). AreLosses file m losses) same are)) in
-          let all : IsSalvaged file meta listing (parts []) [] = record {
+          let all : IsJoinedWith file meta listing (parts []) [] = record {
             joins = record {
               recovered = listing;
               recovers = subst (λ (m : Meta). IsRecovered file m listing) same recovered;
@@ -186,7 +186,7 @@ module _ (b : Below) (file : List ℕ) (meta : Meta) (trees : HasSoundTrees file
             some = λ x everything_is. absurd (search (rules, everything_is));
           } in
           (same, (shown, rw (empty, none) all)));
-      unread = λ why unread. inl (meta, shown, ([], recover.Memory, no_found, tt, only_memory choice shown why unread));
+      unread = λ why unread. inl (meta, shown, ([], join.Memory, no_found, tt, only_memory choice shown why unread));
       metas = metas_found file choice;
     }
 
@@ -201,9 +201,9 @@ pub lists_the_same : {file : List ℕ} {meta : Meta} {from to : Extent} {wanted 
 lists_the_same r form path start answer = (listed r.there form path start answer, listed r.back form path start answer)
 
 pub copies_the_same : {file : List ℕ} {meta : Meta} {from to : Extent} {wanted named : MetaChoice} → ReadsAlike file meta from to wanted named
-    → {O T : Type 0} (out_taken : O → Option (List ℕ)) (out_failed : O → ℕ) (target_taken : T → Option (List ℕ)) (target_failed : T → ℕ)
-    (out_old out_new : O) (target_old target_new : T) (size : Option PageSize) (kind : CopyKind) (ending : JobEnding)
+    → {O T : Type 0} (out : Ghosts O) (target : Ghosts T) (out_old out_new : O) (target_old target_new : T) (size : Option PageSize) (kind : CopyKind)
+    (ending : JobEnding)
     → hash_refusal from (bad_hash (is_snapshot kind) file) ≡ hash_refusal to (bad_hash (is_snapshot kind) file)
-    → MakesCopy out_taken out_failed out_old out_new target_taken target_failed target_old target_new file wanted size kind from ending
-    ↔ MakesCopy out_taken out_failed out_old out_new target_taken target_failed target_old target_new file named size kind to ending
-copies_the_same r out_taken out_failed target_taken target_failed out_old out_new target_old target_new size kind ending same = grind arith
+    → MakesCopy out out_old out_new target target_old target_new file wanted size kind from ending
+    ↔ MakesCopy out out_old out_new target target_old target_new file named size kind to ending
+copies_the_same r out target out_old out_new target_old target_new size kind ending same = grind arith

@@ -14,7 +14,7 @@ use Rattle.bolt_repair.specs.{FullRepairs.AreCandidateKeys, FullRepairs.IsLeftOu
 use Rattle.bolt_repair.specs.{Repaired.MakesMeta, Repaired.elements_on, Repairs.store_path}
 use Rattle.bolt_repair.specs.declared.repair_fault.RepairFault.{RepairFault}
 use Rattle.bolt_repair.specs.declared.repair_fault.RepairFault.TheVariants as faults
-use Rattle.bolt_commands.specs.{Alike.IsUnrepairable, Alike.read_listing, Failures.unrestored, RepairAnswers.IsRestored, RepairAnswers.IsUnrestored}
+use Rattle.bolt_commands.specs.{Alike.IsUnrepairable, Alike.read_listing, Failures.repair_failure, RepairAnswers.IsRepairedUnder, RepairAnswers.IsUnrepairableUnder}
 
 -- ---- nothing is a candidate if nothing is found
 
@@ -34,17 +34,17 @@ none_counted recovered found back left_out none (keys, are, number) =
 pub same_repair : (P : List Member → LostView → List UnreadView → (back left_out : ℕ) → Type 0) {a b : List Member} {l m : LostView}
     {o p : List UnreadView} {i j n k : ℕ}
     → a ≡ b → o ≡ p → l ≡ m → i ≡ j → n ≡ k → P a l o i n → P b m p j k
-same_repair P listing others lost back left_out holds = rw (listing, others, lost, back, left_out) at holds
+same_repair P listing unread_views lost back left_out holds = rw (listing, unread_views, lost, back, left_out) at holds
 
 module _ (b : Below) (file : List ℕ) (meta : Meta) (trees : HasSoundTrees file meta) where
   none_found : (found : List ℕ) → AreFound file meta found → elements_on file meta found ≡ []
   none_found found are = ap (elements_on file meta) (b.none_found file meta found (no_losses b file meta trees) are)
 
-  pub none_restored : (choice : MetaChoice) (listing : List Member) (lost : LostView) (others : List UnreadView) (back left_out : ℕ)
-      → IsRestored file choice false meta listing lost others back left_out
+  pub none_repaired : (choice : MetaChoice) (listing : List Member) (lost : LostView) (unread_views : List UnreadView) (back left_out : ℕ)
+      → IsRepairedUnder file choice false meta listing lost unread_views back left_out
       → (own : List Member) × IsListing file meta own × (is_made : Bool) × MakesMeta own is_made × (listing ≡ read_listing is_made own)
-      × (others ≡ unread own) × (lost ≡ parts []) × (back ≡ 0) × (left_out ≡ 0)
-  none_restored choice listing lost others back left_out is =
+      × (unread_views ≡ unread own) × (lost ≡ parts []) × (back ≡ 0) × (left_out ≡ 0)
+  none_repaired choice listing lost unread_views back left_out is =
       let repair = is.repairs.repair in
       let none =
       none_counted (readable repair.recovered) (elements_on file meta repair.found) is.entries left_out (none_found repair.found repair.are_found)
@@ -63,7 +63,7 @@ module _ (b : Below) (file : List ℕ) (meta : Meta) (trees : HasSoundTrees file
         none.1,
       )
 
-  unrepairable : (fault : RepairFault) (why : Failure) → IsRepairRefusal file meta false fault → why ≡ unrestored fault → IsUnrepairable file meta why
+  unrepairable : (fault : RepairFault) (why : Failure) → IsRepairRefusal file meta false fault → why ≡ repair_failure fault → IsUnrepairable file meta why
   unrepairable (faults.Rootless x) why (loses, none) same = absurd (∥∥₁_elim loses (hlevel props) (keeps_not_loses file meta trees meta x refl))
   unrepairable faults.NoBucket why (keeps, lacks, none) same =
       let (listing, lists) = b.has_listing file meta trees in
@@ -73,8 +73,8 @@ module _ (b : Below) (file : List ℕ) (meta : Meta) (trees : HasSoundTrees file
       inl (same, (value, (lists.exact store_path (Value value)).0 (has listing (b.recovered file meta listing trees lists))))
   unrepairable faults.Memory why is same = inr (inr same)
 
-  pub none_unrestored : (choice : MetaChoice) → IsMetaOf file choice meta → (why : Failure) → IsUnrestored file choice false why
+  pub none_unrepaired : (choice : MetaChoice) → IsMetaOf file choice meta → (why : Failure) → IsUnrepairableUnder file choice false why
       → IsUnrepairable file meta why
-  none_unrestored choice shown why (inl (other, fault, is, refusal, same)) =
+  none_unrepaired choice shown why (inl (other, fault, is, refusal, same)) =
       unrepairable fault why (subst (λ (m : Meta). IsRepairRefusal file m false fault) (names_one b file choice meta shown other is) refusal) same
-  none_unrestored choice shown why (inr (fault, none, same)) = absurd (has_meta file meta trees choice fault shown none)
+  none_unrepaired choice shown why (inr (fault, none, same)) = absurd (has_meta file meta trees choice fault shown none)

@@ -11,20 +11,20 @@ pub use Rattle.bolt_commands.specs.Answers.{Answer, JobEnding, WritesAnswer, IsP
 pub use Rattle.bolt_commands.specs.CheckAnswers.{AnswersLost, IsCheckAnswer, IsCheckAnswerAfter, IsFindingsAnswer, IsLostAnswer}
 pub use Rattle.bolt_commands.specs.CheckAnswers.{check_refusal, findings_answer, lost_and_found_answer}
 pub use Rattle.bolt_commands.specs.FilesRead.{AreFoundPages, HoldsIn, IsReadAnswer, IsReadUnder, IsReadTo}
-pub use Rattle.bolt_commands.specs.FilesRead.{IsRecoveredUnder, IsRefusedUnder, IsSalvaged, IsUnreadTo, IsUnrecoverableUnder, LeadsTo}
-pub use Rattle.bolt_commands.specs.FilesRead.{counts_accounts, found_page, shortfall_ending}
+pub use Rattle.bolt_commands.specs.FilesRead.{IsRecoveredUnder, IsRefusedUnder, IsJoinedWith, IsUnreadTo, IsUnrecoverableUnder, LeadsTo}
+pub use Rattle.bolt_commands.specs.FilesRead.{counts_accounts, found_page, end_listing}
 pub use Rattle.bolt_commands.specs.JobAnswers.{DoesJob, Loads, LoadsListing, MakesCopy, WritesLayout}
 pub use Rattle.bolt_commands.specs.KeyAnswers.{HoldsNone, IsEntriesAnswer, IsSizesAnswer, value_shown}
 pub use Rattle.bolt_commands.specs.StatsAnswers.{AddsEntry, HasStats, IsStatsAnswer, IsTotal, no_stats}
 pub use Rattle.bolt_commands.specs.{ListAnswers.IsListPrint, ListAnswers.IsListedAnswer, ListAnswers.listing_part_text, ListAnswers.part_ending}
 pub use Rattle.bolt_commands.specs.{PageAnswers.IsInfoAnswer, PageAnswers.page_answer}
 pub use Rattle.bolt_commands.specs.CopyAnswers.{StopsShort, copy_page_size, copy_report, hash_refusal}
-pub use Rattle.bolt_commands.specs.Failures.{IsFailureOf, copied, reported, unlisted}
+pub use Rattle.bolt_commands.specs.Failures.{IsFailureOf, copy_failure, report_failure, join_failure}
 pub use Rattle.bolt_commands.specs.{FileFaults.AreCopyFaults, FileFaults.IsMetasFault, FileFaults.IsOtherFault, FileFaults.errors_in}
 pub use Rattle.bolt_commands.specs.{FileFaults.other_meta_lines, Shortfalls.shortfall}
 pub use Rattle.bolt_commands.specs.{declared.shortfall.Shortfall.Shortfall, GoodCopies.HasGoodCopies, GoodCopies.IsGoodCopy, GoodCopies.RefusesFile}
-pub use Rattle.bolt_commands.specs.Private.Copying.{CompactsTo, CopiesJoined, CopiesListing, CopiesRead, CopiesTo, IsAskedBlueprint, blueprint_layout}
-pub use Rattle.bolt_commands.specs.Private.Endings.{MayFail, ending_by, end_written, failing}
+pub use Rattle.bolt_commands.specs.Private.Copying.{CopiesJoined, CopiesListing, CopiesRead, CopiesTo, IsAskedBlueprint, blueprint_layout}
+pub use Rattle.bolt_commands.specs.Private.Endings.{MayFail, end_report, end_write, failing}
 pub use Rattle.bolt_commands.specs.Private.Contents.{HasNoBucket, IsOpenedBucket, IsJoinedOf, IsOpened, IsRecoveryOf, IsSearchOf, IsSoundOf, IsUnopened}
 pub use Rattle.bolt_commands.specs.Private.Contents.{IsUnread, contents_found, contents_lost, contents_meta}
 pub use Rattle.bolt_commands.specs.{SnapshotAnswers.bad_hash, SnapshotAnswers.copy_of, SnapshotAnswers.asked_hash_fault, CopyEnds.EndsCopy}

@@ -1,4 +1,4 @@
--- Commands that do the same: docs/RECOVERY.md, "The recovering walk".
+-- Commands that do the same: docs/COMMANDS.md, "Recovery".
 use Rattle.std.specs.Prelude.{◌≡◌, ◌≢◌, ◌↔◌, ◌⊎◌, ◌*◌, ◌<◌, ◌^◌, ℕ, Bool, true, false, Err, List, [], Option, length}
 use Rattle.bolt_check.specs.Sound.{HasSoundTrees}
 use Rattle.bolt_format.specs.{Metas.HasBothMetas, declared.meta.Meta.Meta, declared.sink.Sink.Ghosts}
@@ -23,8 +23,8 @@ use Rattle.bolt_job.specs.declared.choices.MetaChoice.TheVariants.{Active}
 -- a job does the same on one file as on the other
 abbrev pub DoesAlike : {O T : Type 0} (out : Ghosts O) (target : Ghosts T) → Job → (one other : List ℕ) → Type 0
 DoesAlike {O} {T} out target job one other = (out_old out_new : O) (target_old target_new : T) (ending : JobEnding)
-    → DoesJob out.taken out.failed out_old out_new target.taken target.failed target_old target_new one job ending
-    ↔ DoesJob out.taken out.failed out_old out_new target.taken target.failed target_old target_new other job ending
+    → DoesJob out out_old out_new target target_old target_new one job ending
+    ↔ DoesJob out out_old out_new target target_old target_new other job ending
 
 -- ---- what is read of a file with sound trees
 
@@ -58,8 +58,8 @@ abbrev pub CopiesAlike : {O T : Type 0} (out : Ghosts O) (target : Ghosts T) →
 CopiesAlike {O} {T} out target one other file wanted named =
     (out_old out_new : O) (target_old target_new : T) (size : Option PageSize) (kind : CopyKind) (ending : JobEnding)
     → hash_refusal one (bad_hash (is_snapshot kind) file) ≡ hash_refusal other (bad_hash (is_snapshot kind) file)
-    → MakesCopy out.taken out.failed out_old out_new target.taken target.failed target_old target_new file wanted size kind one ending
-    ↔ MakesCopy out.taken out.failed out_old out_new target.taken target.failed target_old target_new file named size kind other ending
+    → MakesCopy out out_old out_new target target_old target_new file wanted size kind one ending
+    ↔ MakesCopy out out_old out_new target target_old target_new file named size kind other ending
 
 -- `keys`, `buckets` and `get` print with `--recover` what they print without it; of the first two, unless memory runs out
 abbrev pub KeysAlike : List ℕ → (wanted named : MetaChoice) → Type 0
@@ -89,10 +89,9 @@ read_listing is_made listing = merge (readable listing) (members_in is_made meta
 abbrev pub RepairsNothing : {O T : Type 0} (out : Ghosts O) (target : Ghosts T) → List ℕ → Meta → MetaChoice → Type 0
 RepairsNothing {O} {T} out target file meta choice =
     (out_old out_new : O) (target_old target_new : T) (size : Option PageSize) (kind : CopyKind) (ending : JobEnding)
-    → MakesRepair out.taken out.failed out_old out_new target.taken target.failed target_old target_new file choice size kind false ending
+    → MakesRepair out out_old out_new target target_old target_new file choice size kind false ending
     → ∥ ((listing : List Member) × IsListing file meta listing × (is_made : Bool) × MakesMeta listing is_made × (faults : FileFaults)
     × AreCopyFaults FoundPages kind file choice faults
-    × WritesCopy out.taken out.failed out_old out_new target.taken target.failed target_old target_new kind (copy_page_size size meta)
-    (read_listing is_made listing) meta.root_sequence (repair_report faults (parts []) (unread listing) 0 0 (length file)) ending) ∥₁
-    ⊎ ((why : Failure) × IsUnrepairable file meta why
-    × WritesNone out.taken out.failed out_old out_new target.taken target.failed target_old target_new why ending)
+    × WritesCopy out out_old out_new target target_old target_new kind (copy_page_size size meta) (read_listing is_made listing) meta.root_sequence
+    (repair_report faults (parts []) (unread listing) 0 0 (length file)) ending) ∥₁
+    ⊎ ((why : Failure) × IsUnrepairable file meta why × WritesNone out out_old out_new target target_old target_new why ending)

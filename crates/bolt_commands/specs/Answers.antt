@@ -1,7 +1,7 @@
 -- What the program answers to a command, and what its sinks accept: docs/COMMANDS.md, "What a run writes".
-use Rattle.std.specs.Prelude.{◌≡◌, ◌≢◌, ◌<◌, ◌⊎◌, ℕ, List, [], ◌++◌, Option, Result, Ok, Err}
+use Rattle.std.specs.Prelude.{◌≡◌, ◌≢◌, ◌<◌, ◌⊎◌, ℕ, List, [], ◌++◌, Result, Ok, Err}
 use Rattle.std.specs.Io.KnownBytes.{Appends}
-use Rattle.bolt_format.specs.Sinks.{AppendsPrefix}
+use Rattle.bolt_format.specs.{Sinks.AppendsPrefix, declared.sink.Sink.Ghosts}
 use Rattle.bolt_text.specs.{declared.forms.Form.Form, declared.forms.Form.TheVariants.Json}
 use Rattle.bolt_commands.specs.{Failures.failure_line, declared.failure.Failure.Failure}
 use Rattle.bolt_commands.specs.declared.failure.Failure.TheVariants as failure
@@ -44,22 +44,22 @@ IsPrinted memory text ending answer =
 
 -- From its state `old` to `new` standard output accepted the text of the answer without a failure, and the job ends so; or it has failed
 -- by then, accepted a prefix, and the job ends with that.
-abbrev pub WritesAnswer : {S : Type 0} → (taken : S → Option (List ℕ)) (failed : S → ℕ) (old new : S) → Answer → JobEnding → Type 0
-WritesAnswer taken failed old new answer ending =
-    (Appends (taken old) (taken new) answer.out × (failed new ≡ failed old) × (ending ≡ answer.ending))
-    ⊎ ((0 < failed new) × AppendsPrefix (taken old) (taken new) answer.out × (ending ≡ Err failure.Write))
+abbrev pub WritesAnswer : {S : Type 0} (sink : Ghosts S) (old new : S) → Answer → JobEnding → Type 0
+WritesAnswer sink old new answer ending =
+    (Appends (sink.taken old) (sink.taken new) answer.out × (sink.failed new ≡ sink.failed old) × (ending ≡ answer.ending))
+    ⊎ ((0 < sink.failed new) × AppendsPrefix (sink.taken old) (sink.taken new) answer.out × (ending ≡ Err failure.Write))
 
 abbrev pub status_of : JobEnding → ℕ
 status_of (Ok status) = status
 status_of (Err failure) = 1
 
 -- a sink accepted a text without a failure, or it has failed by then and accepted a prefix of it
-abbrev pub Accepts : {S : Type 0} → (taken : S → Option (List ℕ)) (failed : S → ℕ) (old new : S) → List ℕ → Type 0
-Accepts taken failed old new text =
-    (Appends (taken old) (taken new) text × (failed new ≡ failed old))
-    ⊎ ((0 < failed new) × AppendsPrefix (taken old) (taken new) text)
+abbrev pub Accepts : {S : Type 0} (sink : Ghosts S) (old new : S) → List ℕ → Type 0
+Accepts sink old new text =
+    (Appends (sink.taken old) (sink.taken new) text × (sink.failed new ≡ sink.failed old))
+    ⊎ ((0 < sink.failed new) × AppendsPrefix (sink.taken old) (sink.taken new) text)
 
 -- the line of a failure was written to standard error; if there was none, nothing was
-abbrev pub Reports : {S : Type 0} → (taken : S → Option (List ℕ)) (failed : S → ℕ) (old new : S) → JobEnding → Type 0
-Reports taken failed old new (Ok status) = new ≡ old
-Reports taken failed old new (Err failure) = Accepts taken failed old new (failure_line failure)
+abbrev pub Reports : {S : Type 0} (sink : Ghosts S) (old new : S) → JobEnding → Type 0
+Reports sink old new (Ok status) = new ≡ old
+Reports sink old new (Err failure) = Accepts sink old new (failure_line failure)

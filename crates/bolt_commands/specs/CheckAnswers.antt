@@ -1,4 +1,4 @@
--- What `check` answers: docs/COMMANDS.md, "What a run writes".
+-- What `check` answers: docs/COMMANDS.md, "check".
 use Rattle.std.specs.Prelude.{◌≡◌, ◌⊎◌, ◌&&◌, ℕ, List, [], ◌∷◌, ◌++◌, Bool, true, false, codes, Ok, Err, if◌then◌else◌}
 use Rattle.bolt_check.specs.{BboltFileFindings.file_findings, BboltFindings.AreBboltFindings, Nodes.node_at}
 use Rattle.bolt_check.specs.{declared.bbolt_file.FileFinding.FileFinding, declared.check_fault.CheckFault.CheckFault}

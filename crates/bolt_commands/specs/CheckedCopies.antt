@@ -21,5 +21,5 @@ FailsCutOff snapshot file = (n : ℕ) → n < length file → (extent : Extent) 
 abbrev pub LoadsAs : {O T : Type 0} (out : Ghosts O) (target : Ghosts T) → List ℕ → List Member → Type 0
 LoadsAs {O} {T} out target text listing =
     (out_old out_new : O) (target_old target_new : T) (page_size sequence : ℕ) (kind : CopyKind) (ending : JobEnding)
-    → Loads out.taken out.failed out_old out_new target.taken target.failed target_old target_new text page_size sequence kind ending
-    → LoadsListing out.taken out.failed out_old out_new target.taken target.failed target_old target_new listing text page_size sequence kind ending
+    → Loads out out_old out_new target target_old target_new text page_size sequence kind ending
+    → LoadsListing out out_old out_new target target_old target_new listing text page_size sequence kind ending

@@ -2,7 +2,7 @@
 use Rattle.std.specs.Prelude.{◌≡◌, ◌<◌, ◌≤◌, ◌&&◌, ℕ, List, ◌++◌, codes, decimal, length, Option, Some, None, Ok, if◌then◌else◌}
 use Rattle.std.specs.Io.KnownBytes.{Keeps}
 use Rattle.bolt_bulk.specs.Compacting.{too_many}
-use Rattle.bolt_format.specs.{Sinks.AppendsProperPrefix, declared.meta.Meta.Meta}
+use Rattle.bolt_format.specs.{Sinks.AppendsProperPrefix, declared.meta.Meta.Meta, declared.sink.Sink.Ghosts}
 use Rattle.bolt_recover.specs.Losses.{LostView, is_nothing}
 use Rattle.bolt_report.specs.FoundLines.{FoundView, lost_text}
 use Rattle.bolt_commands.specs.{FileFaults.fault_lines, FileFaults.is_fine, declared.failure.Failure.Failure}
@@ -21,18 +21,18 @@ copy_page_size (Some size) meta = size.bytes
 copy_page_size None meta = meta.page_size
 
 -- why a copy isn't whole: memory ran out, the layout has 2^63 bytes or more, or the target failed
-abbrev pub StopsCopy : {T : Type 0} → (failed : T → ℕ) (old new : T) → (layout : List ℕ) → Failure → Type 0
-StopsCopy failed old new layout failure.Memory = failed new ≡ failed old
-StopsCopy failed old new layout failure.TooLarge = (too_many ≤ length layout) × (failed new ≡ failed old)
-StopsCopy failed old new layout failure.Write = 0 < failed new
-StopsCopy failed old new layout _ = ⊥
+abbrev pub StopsCopy : {T : Type 0} (target : Ghosts T) (old new : T) → (layout : List ℕ) → Failure → Type 0
+StopsCopy target old new layout failure.Memory = target.failed new ≡ target.failed old
+StopsCopy target old new layout failure.TooLarge = (too_many ≤ length layout) × (target.failed new ≡ target.failed old)
+StopsCopy target old new layout failure.Write = 0 < target.failed new
+StopsCopy target old new layout _ = ⊥
 
 -- The target accepted a prefix of the copy that isn't the whole, and the failure says why. Of a layout with 2^63 bytes or more it
 -- accepted nothing.
-pub record StopsShort {T : Type 0} (taken : T → Option (List ℕ)) (failed : T → ℕ) (old new : T) (layout copy : List ℕ) (failure : Failure) : Type 0 where
-  pub short : AppendsProperPrefix (taken old) (taken new) copy
-  pub why : StopsCopy failed old new layout failure
-  pub large : too_many ≤ length layout → Keeps (taken old) (taken new)
+pub record StopsShort {T : Type 0} (target : Ghosts T) (old new : T) (layout copy : List ℕ) (failure : Failure) : Type 0 where
+  pub short : AppendsProperPrefix (target.taken old) (target.taken new) copy
+  pub why : StopsCopy target old new layout failure
+  pub large : too_many ≤ length layout → Keeps (target.taken old) (target.taken new)
 
 -- the status of a copy: 0 if nothing is lost, and nothing is wrong with the file apart from its pages
 abbrev pub copy_status : FileFaults → LostView → ℕ

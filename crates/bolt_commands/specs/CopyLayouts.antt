@@ -1,4 +1,4 @@
--- The layout of a copy, by what the copy is for: docs/COMMANDS.md, "What a run writes".
+-- The layout of a copy, by what the copy is for: docs/LAYOUT.md.
 use Rattle.bolt_layout.specs.{declared.Layout.Layout, declared.Layout.TheVariants.Balanced, declared.Layout.TheVariants.Plain}
 use Rattle.bolt_job.specs.declared.choices.CopyKind.{CopyKind}
 use Rattle.bolt_job.specs.declared.choices.CopyKind.TheVariants as kind

@@ -11,7 +11,7 @@ use Rattle.bolt_commands.specs.declared.failure.Failure.TheVariants as failure
 use Rattle.bolt_etcd.specs.{Store.Current.AreCurrent, Store.Newest.newest, Store.Newest.until, Store.Newest.value_if, Wire.Revisions.RevisionView}
 use Rattle.bolt_etcd.specs.{Store.StoreBuckets.IsStore, Store.StoreBuckets.StoreView}
 use Rattle.bolt_etcd.specs.{Store.Statuses.store_status, Check.StoreFaults.store_compacted, Check.StoreFaults.store_lines, Store.Stores.entries_from}
-use Rattle.bolt_etcd.specs.{Store.Stores.others, Store.Stores.revisions}
+use Rattle.bolt_etcd.specs.{Store.Stores.unread_elements, Store.Stores.revisions}
 use Rattle.bolt_etcd.specs.Store.BucketNames.{key_bucket}
 use Rattle.std.specs.{Int.to_be_bytes, Int.w64, List.concat}
 use Rattle.bolt_job.specs.declared.{choices.Extent.TheVariants.Losses, choices.MetaChoice.MetaChoice}
@@ -29,12 +29,12 @@ OfKeys None IsWanted answer = answer ≡ refused failure.NoBucket
 OfKeys (Some entries) IsWanted answer = IsWanted entries answer
 
 -- entries that aren't revisions are counted on standard error: they may have been newer
-abbrev pub others_ending : ℕ → JobEnding
-others_ending zero = Ok 0
-others_ending (suc n) = Err (failure.NotRevisions (suc n))
+abbrev pub end_unread : ℕ → JobEnding
+end_unread zero = Ok 0
+end_unread (suc n) = Err (failure.NotRevisions (suc n))
 
 abbrev pub entries_ending : List LeafElement → JobEnding
-entries_ending entries = others_ending (counted 0 (length (others entries)))
+entries_ending entries = end_unread (counted 0 (length (unread_elements entries)))
 
 -- the entries from a transaction on, if one is named: those whose keys aren't below its number in eight bytes
 abbrev pub entries_asked : Option ℕ → List LeafElement → List LeafElement

@@ -6,8 +6,8 @@ use Rattle.bolt_check.specs.{declared.check_fault.CheckFault.CheckFault, ShownFi
 use Rattle.bolt_check.specs.declared.check_fault.CheckFault.TheVariants as check
 use Rattle.bolt_load.specs.{LoadFaultWords.line_fault_words, declared.load_fault.LoadFault.LoadFault}
 use Rattle.bolt_load.specs.declared.load_fault.LoadFault.TheVariants as load
-use Rattle.bolt_recover.specs.declared.recover_fault.RecoverFault.{RecoverFault}
-use Rattle.bolt_recover.specs.declared.recover_fault.RecoverFault.TheVariants as recover
+use Rattle.bolt_recover.specs.declared.join_fault.JoinFault.{JoinFault}
+use Rattle.bolt_recover.specs.declared.join_fault.JoinFault.TheVariants as join
 use Rattle.bolt_repair.specs.declared.repair_fault.RepairFault.{RepairFault}
 use Rattle.bolt_repair.specs.declared.repair_fault.RepairFault.TheVariants as repair
 use Rattle.bolt_report.specs.FaultWords.{finding_text, meta_fault_text, page_fault_text, snapshot_fault_text}
@@ -44,35 +44,35 @@ abbrev pub failure_line : Failure → List ℕ
 failure_line failure = codes "error: " ++ failure_text failure
 
 -- the failure if a text wasn't written
-abbrev pub reported : ReportFault → Failure
-reported report.Sink = Write
-reported report.NoMemory = Memory
-reported (report.Page fault) = Page fault
+abbrev pub report_failure : ReportFault → Failure
+report_failure report.Sink = Write
+report_failure report.NoMemory = Memory
+report_failure (report.Page fault) = Page fault
 
 -- the failure if a copy wasn't written whole
-abbrev pub copied : BulkFault → Failure
-copied bulk.Memory = Memory
-copied bulk.TooLarge = TooLarge
-copied bulk.Sink = Write
+abbrev pub copy_failure : BulkFault → Failure
+copy_failure bulk.Memory = Memory
+copy_failure bulk.TooLarge = TooLarge
+copy_failure bulk.Sink = Write
 
 -- the failure if a file isn't read as the text of a listing
-abbrev pub unloaded : LoadFault → Failure
-unloaded load.Memory = Memory
-unloaded (load.Line number fault) = Line number fault
+abbrev pub load_failure : LoadFault → Failure
+load_failure load.Memory = Memory
+load_failure (load.Line number fault) = Line number fault
 
 -- the failure if there is no joined listing
-abbrev pub unlisted : RecoverFault → Failure
-unlisted (recover.Rootless x) = File x
-unlisted recover.Exists = Exists
-unlisted recover.TooManyPages = TooManyPages
-unlisted recover.Memory = Memory
+abbrev pub join_failure : JoinFault → Failure
+join_failure (join.Rootless x) = File x
+join_failure join.Exists = Exists
+join_failure join.TooManyPages = TooManyPages
+join_failure join.Memory = Memory
 
 -- the failure if a file isn't repaired
-abbrev pub unrestored : RepairFault → Failure
-unrestored (repair.Rootless x) = File x
-unrestored repair.NoBucket = NoBucket
-unrestored repair.NotABucket = NotABucket
-unrestored repair.Memory = Memory
+abbrev pub repair_failure : RepairFault → Failure
+repair_failure (repair.Rootless x) = File x
+repair_failure repair.NoBucket = NoBucket
+repair_failure repair.NotABucket = NotABucket
+repair_failure repair.Memory = Memory
 
 -- the failure of a job whose file is refused; of the findings of the accounts the first is reported
 abbrev pub IsFailureOf : CheckFault → Failure → Type 0

@@ -8,11 +8,11 @@ use Rattle.bolt_format.specs.{Pages.page_at, declared.meta.Meta.Meta, declared.m
 use Rattle.bolt_recover.specs.{Found.AreFound, JoinRefusals.IsJoinRefusal, Joined.IsJoined, Joined.LacksBucketKey, Losses.AreLosses, Losses.LossView}
 use Rattle.bolt_recover.specs.{Losses.LostView, Losses.everything, Losses.parts}
 use Rattle.bolt_recover.specs.{Lost.IsAllLost, Sites.leaves_of, Recovered.ForRecovered, Recovered.IsRecovered, Refusals.IsUnrecoverable}
-use Rattle.bolt_recover.specs.{Refusals.KeepsRoot, declared.recover_fault.RecoverFault.RecoverFault}
+use Rattle.bolt_recover.specs.{Refusals.KeepsRoot, declared.join_fault.JoinFault.JoinFault}
 use Rattle.bolt_report.specs.FoundLines.{FoundView}
 use Rattle.bolt_tree.specs.{Entries.IsEntry, Entries.Item, Entries.Root_page, Entries.Start, Listing.IsListing, Listing.Member, Paths.Holds}
 use Rattle.bolt_tree.specs.{Paths.Names, Paths.Path}
-use Rattle.bolt_commands.specs.{Failures.IsFailureOf, Failures.unlisted, FileFaults.IsMetasFault, Shortfalls.shortfall}
+use Rattle.bolt_commands.specs.{Failures.IsFailureOf, Failures.join_failure, FileFaults.IsMetasFault, Shortfalls.shortfall}
 use Rattle.bolt_commands.specs.declared.{failure.Failure.Failure, other_meta.OtherMeta.OtherMeta, shortfall.Shortfall.Shortfall}
 use Rattle.bolt_commands.specs.Answers.{Answer, JobEnding, refused}
 use Rattle.bolt_job.specs.{MetaChoices.HasNoMetaOf, MetaChoices.IsMetaOf, declared.choices.Extent.Extent}
@@ -83,7 +83,7 @@ AreFoundTo FoundPages file meta found = AreFoundPages file meta found
 AreFoundTo extent file meta found = found ≡ []
 
 -- the joined listing of a file, what is lost and what is found; if everything is lost, a page is found
-pub record IsSalvaged (file : List ℕ) (meta : Meta) (listing : List Member) (lost : LostView) (found : List FoundView) : Type 0 where
+pub record IsJoinedWith (file : List ℕ) (meta : Meta) (listing : List Member) (lost : LostView) (found : List FoundView) : Type 0 where
   pub joins : IsJoined file meta listing
   pub loses : IsAllLost file meta lost
   pub finds : AreFoundPages file meta found
@@ -93,7 +93,7 @@ pub record IsSalvaged (file : List ℕ) (meta : Meta) (listing : List Member) (l
 -- why there is none
 abbrev pub IsUnjoined : List ℕ → Meta → Failure → Type 0
 IsUnjoined file meta why =
-    (found : List ℕ) × (fault : RecoverFault) × AreFound file meta found × IsJoinRefusal file meta found fault × (why ≡ unlisted fault)
+    (found : List ℕ) × (fault : JoinFault) × AreFound file meta found × IsJoinRefusal file meta found fault × (why ≡ join_failure fault)
 
 abbrev pub IsUnjoinedUnder : List ℕ → MetaChoice → Failure → Type 0
 IsUnjoinedUnder file choice why =
@@ -107,7 +107,7 @@ IsReadTo Sound file choice meta listing lost found = IsReadUnder file choice met
 IsReadTo Losses file choice meta listing lost found =
     IsRecoveredUnder file choice meta × IsRecovered file meta listing × ((losses : List LossView) × AreLosses file meta losses × (lost ≡ parts losses))
     × (found ≡ [])
-IsReadTo FoundPages file choice meta listing lost found = IsMetaOf file choice meta × IsSalvaged file meta listing lost found
+IsReadTo FoundPages file choice meta listing lost found = IsMetaOf file choice meta × IsJoinedWith file meta listing lost found
 
 -- why it isn't read
 abbrev pub IsUnreadTo : Extent → List ℕ → MetaChoice → Failure → Type 0
@@ -116,9 +116,9 @@ IsUnreadTo Losses file choice why = (fault : CheckFault) × IsUnrecoverableUnder
 IsUnreadTo FoundPages file choice why = IsUnjoinedUnder file choice why
 
 -- if something is lacking, this is reported on standard error
-abbrev pub shortfall_ending : Option Shortfall → JobEnding
-shortfall_ending None = Ok 0
-shortfall_ending (Some lacking) = Err (failure.Lacking lacking)
+abbrev pub end_listing : Option Shortfall → JobEnding
+end_listing None = Ok 0
+end_listing (Some lacking) = Err (failure.Lacking lacking)
 
 -- what an output to this extent lacks if this is lost: that, and the newest state, if the other meta is refused
 abbrev pub IsLackingTo : Extent → List ℕ → MetaChoice → LostView → Option Shortfall → Type 0

@@ -1,9 +1,10 @@
--- What a job does: what standard output and the target accept, and how it ends.
+-- What a job does: what standard output and the target accept, and how it ends. What is printed is an `Is..Answer` for given inputs, and an
+-- `Is..Print` for a job and its file.
 use Rattle.std.specs.Prelude.{◌≡◌, ◌<◌, ◌⊎◌, ℕ, List, [], ◌∷◌, Bool, length, Option, Some, None, Err}
 use Rattle.std.specs.Io.KnownBytes.{Appends}
 use Rattle.bolt_bulk.specs.Compacting.{too_many}
 use Rattle.bolt_layout.specs.Copies.{layout_of_listing}
-use Rattle.bolt_format.specs.declared.meta.Meta.{Meta}
+use Rattle.bolt_format.specs.{declared.meta.Meta.Meta, declared.sink.Sink.Ghosts}
 use Rattle.bolt_load.specs.{LineFaults.IsListingText, LineFaults.IsLoadFault, declared.load_fault.LoadFault.LoadFault}
 use Rattle.bolt_load.specs.{declared.load_fault.LineFault.TheVariants.CutOff}
 use Rattle.bolt_text.specs.LineMembers.{text_members}
@@ -13,7 +14,7 @@ use Rattle.bolt_tree.specs.Listing.{Member}
 use Rattle.bolt_job.specs.{CopyKinds.is_snapshot, declared.choices.CopyKind.CopyKind, declared.choices.Extent.Extent}
 use Rattle.bolt_job.specs.{declared.choices.Extent.TheVariants.FoundPages, declared.job.Job.Job, declared.choices.MetaChoice.MetaChoice}
 use Rattle.bolt_job.specs.{declared.choices.MetaChoice.TheVariants.Active, declared.choices.PageSize.PageSize}
-use Rattle.bolt_commands.specs.{CopyLayouts.layout_for, Failures.unloaded, FileFaults.AreCopyFaults, GoodCopies.IsGoodCopy, SnapshotAnswers.copy_of}
+use Rattle.bolt_commands.specs.{CopyLayouts.layout_for, Failures.load_failure, FileFaults.AreCopyFaults, GoodCopies.IsGoodCopy, SnapshotAnswers.copy_of}
 use Rattle.bolt_commands.specs.{declared.failure.Failure.Failure}
 use Rattle.bolt_commands.specs.{declared.file_faults.FileFaults.FileFaults, Answers.Answer, Answers.JobEnding, Answers.WritesAnswer, Answers.done}
 use Rattle.bolt_commands.specs.{CheckAnswers.IsCheckAnswer}
@@ -21,19 +22,18 @@ use Rattle.bolt_commands.specs.CopyAnswers.{StopsShort, copy_page_size, copy_rep
 use Rattle.bolt_commands.specs.EtcdAnswers.{IsEtcdCheckPrint, IsEtcdGetPrint, IsEtcdKeysPrint, IsEtcdRevisionsPrint, IsEtcdStatusPrint}
 use Rattle.bolt_commands.specs.{FilesRead.IsReadAnswer, FilesRead.IsReadTo, FilesRead.IsUnreadTo, KeyAnswers.IsBucketsPrint, KeyAnswers.IsGetPrint}
 use Rattle.bolt_commands.specs.{KeyAnswers.IsKeysPrint, ListAnswers.IsListPrint}
-use Rattle.bolt_commands.specs.{PageAnswers.IsInfoAnswer, PageAnswers.IsPageAnswer, PageAnswers.IsPagesAnswer, RepairAnswers.IsRestored}
-use Rattle.bolt_commands.specs.{RepairAnswers.IsUnrestored, RepairAnswers.repair_report}
+use Rattle.bolt_commands.specs.{PageAnswers.IsInfoAnswer, PageAnswers.IsPageAnswer, PageAnswers.IsPagesAnswer, RepairAnswers.IsRepairedUnder}
+use Rattle.bolt_commands.specs.{RepairAnswers.IsUnrepairableUnder, RepairAnswers.repair_report}
 use Rattle.bolt_commands.specs.{StatesAnswers.IsStatesPrint, StatsAnswers.IsStatsPrint}
 use Rattle.bolt_commands.specs.declared.failure.Failure.TheVariants as failure
 use Rattle.bolt_etcd.specs.{Wire.UnreadEntries.UnreadView, declared.check.snapshot.SnapshotFault.SnapshotFault}
 use Rattle.bolt_job.specs.declared.job.Job.TheVariants as job
 
 -- standard output and the target, each from its state `old` to `new`
-module _ {O T : Type 0} (out_taken : O → Option (List ℕ)) (out_failed : O → ℕ) (out_old out_new : O)
-    (target_taken : T → Option (List ℕ)) (target_failed : T → ℕ) (target_old target_new : T) where
+module _ {O T : Type 0} (out : Ghosts O) (out_old out_new : O) (target : Ghosts T) (target_old target_new : T) where
   -- standard output accepts the text of the answer, and the target isn't touched
   abbrev pub Prints : (Answer → Type 0) → JobEnding → Type 0
-  Prints IsWanted ending = (answer : Answer) × IsWanted answer × WritesAnswer out_taken out_failed out_old out_new answer ending × (target_new ≡ target_old)
+  Prints IsWanted ending = (answer : Answer) × IsWanted answer × WritesAnswer out out_old out_new answer ending × (target_new ≡ target_old)
 
   -- The target accepted the whole copy without a failure, which is the layout and, in a snapshot, its hash. The layout has fewer than 2^63
   -- bytes, and what the target accepted is a good copy of this listing. Then standard output is to accept the text of the answer to its
@@ -42,13 +42,13 @@ module _ {O T : Type 0} (out_taken : O → Option (List ℕ)) (out_failed : O �
   CopiesWhole snapshot listing layout answer ending =
       let copy = copy_of snapshot layout in
       (length layout < too_many) × ∥ IsGoodCopy snapshot layout listing ∥₁
-      × Appends (target_taken target_old) (target_taken target_new) copy × (target_failed target_new ≡ target_failed target_old)
-      × WritesAnswer out_taken out_failed out_old out_new (answer (length copy)) ending
+      × Appends (target.taken target_old) (target.taken target_new) copy × (target.failed target_new ≡ target.failed target_old)
+      × WritesAnswer out out_old out_new (answer (length copy)) ending
 
   -- the target stopped short, standard output isn't touched, and the job ends with the failure
   abbrev pub CopiesInPart : (snapshot : Bool) → (layout : List ℕ) → JobEnding → Type 0
   CopiesInPart snapshot layout ending =
-      (failure : Failure) × StopsShort target_taken target_failed target_old target_new layout (copy_of snapshot layout) failure × (out_new ≡ out_old)
+      (failure : Failure) × StopsShort target target_old target_new layout (copy_of snapshot layout) failure × (out_new ≡ out_old)
       × (ending ≡ Err failure)
 
   -- the copy with this layout is written, or a part of it
@@ -80,12 +80,12 @@ module _ {O T : Type 0} (out_taken : O → Option (List ℕ)) (out_failed : O �
       ⊎ ((why : Failure) × IsUnreadTo extent file choice why × WritesNone why ending)
 
   -- the copy of the repaired listing, and what is reported of it
-  abbrev pub WritesRestored : List ℕ → MetaChoice → Option PageSize → CopyKind → (search : Bool) → JobEnding → Type 0
-  WritesRestored file choice size kind search ending =
-      (meta : Meta) × (listing : List Member) × (lost : LostView) × (others : List UnreadView) × (back left_out : ℕ)
-      × IsRestored file choice search meta listing lost others back left_out
+  abbrev pub WritesRepaired : List ℕ → MetaChoice → Option PageSize → CopyKind → (search : Bool) → JobEnding → Type 0
+  WritesRepaired file choice size kind search ending =
+      (meta : Meta) × (listing : List Member) × (lost : LostView) × (unread_views : List UnreadView) × (back left_out : ℕ)
+      × IsRepairedUnder file choice search meta listing lost unread_views back left_out
       × (faults : FileFaults) × AreCopyFaults FoundPages kind file choice faults
-      × WritesCopy kind (copy_page_size size meta) listing meta.root_sequence (repair_report faults lost others back left_out (length file)) ending
+      × WritesCopy kind (copy_page_size size meta) listing meta.root_sequence (repair_report faults lost unread_views back left_out (length file)) ending
 
   -- `etcd-repair`: The target accepts the layout that is asked for of the repaired listing, at the copy's page size, and for a snapshot then its
   -- hash: a good copy of that listing. Then it is reported if the file has a hash that isn't right, if the newest state may be lost, what is lost,
@@ -93,7 +93,7 @@ module _ {O T : Type 0} (out_taken : O → Option (List ℕ)) (out_failed : O �
   -- touched.
   abbrev pub MakesRepair : List ℕ → MetaChoice → Option PageSize → CopyKind → (search : Bool) → JobEnding → Type 0
   MakesRepair file choice size kind search ending =
-      ∥ WritesRestored file choice size kind search ending ∥₁ ⊎ ((why : Failure) × IsUnrestored file choice search why × WritesNone why ending)
+      ∥ WritesRepaired file choice size kind search ending ∥₁ ⊎ ((why : Failure) × IsUnrepairableUnder file choice search why × WritesNone why ending)
 
   -- `load`: The target accepts the layout that is asked for of the listing that the lines of the file tell, with this root sequence, and for a
   -- snapshot then its hash: a good copy of that listing. Or a line isn't right, or memory ran out, and neither is touched.
@@ -101,7 +101,7 @@ module _ {O T : Type 0} (out_taken : O → Option (List ℕ)) (out_failed : O �
   Loads file page_size sequence kind ending =
       (IsListingText file
       × WritesCopy kind page_size (text_members file) sequence (λ copy. done (lengths_line (length file) copy)) ending)
-      ⊎ ((fault : LoadFault) × IsLoadFault file fault × WritesNone (unloaded fault) ending)
+      ⊎ ((fault : LoadFault) × IsLoadFault file fault × WritesNone (load_failure fault) ending)
 
   -- nothing is written, and the job ends with this failure or for want of memory
   abbrev pub StopsAt : Failure → JobEnding → Type 0

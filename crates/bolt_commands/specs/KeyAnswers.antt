@@ -1,4 +1,4 @@
--- What `buckets`, `keys` and `get` answer: docs/COMMANDS.md, "What is printed".
+-- What `buckets`, `keys` and `get` answer: docs/COMMANDS.md, "buckets", "keys" and "get".
 use Rattle.std.specs.Prelude.{◌≡◌, ◌⊎◌, Contains, ℕ, List, [], Bool, true, false, Option, Some, None, Ok, Err, if◌then◌else◌}
 use Rattle.bolt_format.specs.{Elements.LeafElement, declared.meta.Meta.Meta}
 use Rattle.bolt_recover.specs.Losses.{LostView}
@@ -10,7 +10,7 @@ use Rattle.bolt_tree.specs.{Entries.AreEntries, Entries.IsEntry, Entries.Start, 
 use Rattle.bolt_tree.specs.{Paths.Path}
 use Rattle.bolt_commands.specs.{declared.shortfall.Shortfall.Shortfall, declared.failure.Failure.Failure}
 use Rattle.bolt_commands.specs.Answers.{Answer, IsPrinted, JobEnding, Late, Short, in_json, refused}
-use Rattle.bolt_commands.specs.FilesRead.{HoldsIn, IsLackingTo, IsReadAnswer, IsReadTo, IsUnreadTo, LeadsNowhere, LeadsTo, shortfall_ending}
+use Rattle.bolt_commands.specs.FilesRead.{HoldsIn, IsLackingTo, IsReadAnswer, IsReadTo, IsUnreadTo, LeadsNowhere, LeadsTo, end_listing}
 use Rattle.bolt_tree.specs.Paths.{path_above}
 use Rattle.bolt_job.specs.{declared.choices.BucketsShown.BucketsShown, declared.choices.Extent.TheVariants.Losses}
 use Rattle.bolt_job.specs.{declared.bucket_commands.BucketsJob.BucketsJob}
@@ -72,7 +72,7 @@ no_key lacking = missing failure.NoKey failure.KeyMaybeLost lacking
 
 -- the names that are wanted in a bucket of the listing, and then what is lacking; or the bucket isn't there
 abbrev pub names_ending : Path → List Member → Option Shortfall → JobEnding
-names_ending path listing lacking = if has_bucket path listing then shortfall_ending lacking else Err (no_bucket lacking)
+names_ending path listing lacking = if has_bucket path listing then end_listing lacking else Err (no_bucket lacking)
 
 abbrev pub IsNamesAnswer : Form → WantedNames → Path → List Member → Option Shortfall → Answer → Type 0
 IsNamesAnswer form wanted path listing lacking answer = IsPrinted Late (names_text form wanted path listing) (names_ending path listing lacking) answer
@@ -86,7 +86,7 @@ abbrev pub IsRecoveredValue : GetJob → List Member → Option Shortfall → An
 IsRecoveredValue job listing lacking answer =
     let path = owned_path job.path.items in
     ((value : List ℕ) × Contains listing (path, Value value)
-    × IsPrinted (in_json Short job.form) (value_shown job.form job.no_newline value) (shortfall_ending lacking) answer)
+    × IsPrinted (in_json Short job.form) (value_shown job.form job.no_newline value) (end_listing lacking) answer)
     ⊎ (((value : List ℕ) → Contains listing (path, Value value) → ⊥) × (answer ≡ refused (no_value path listing lacking)))
 
 -- the names of the buckets, or of those that are recovered, or their sizes, of a file under a meta

@@ -1,4 +1,4 @@
--- What `list` answers: docs/COMMANDS.md, "What is printed".
+-- What `list` answers: docs/COMMANDS.md, "list".
 use Rattle.std.specs.Prelude.{◌≡◌, ◌⊎◌, ℕ, List, Option, Err, if◌then◌else◌}
 use Rattle.bolt_format.specs.declared.meta.Meta.{Meta}
 use Rattle.bolt_recover.specs.Losses.{LostView}
@@ -7,7 +7,7 @@ use Rattle.bolt_text.specs.{ListForms.listing_lines, declared.forms.ListForm.Lis
 use Rattle.bolt_tree.specs.{Listing.Member, Listing.rest_from, ListingParts.bucket_part, ListingParts.has_bucket, Paths.Path}
 use Rattle.bolt_commands.specs.{declared.shortfall.Shortfall.Shortfall, declared.failure.Failure.Failure, Answers.Answer, Answers.IsPrinted}
 use Rattle.bolt_commands.specs.Answers.{JobEnding, Late, refused}
-use Rattle.bolt_commands.specs.FilesRead.{IsLackingTo, IsReadTo, IsUnreadTo, shortfall_ending}
+use Rattle.bolt_commands.specs.FilesRead.{IsLackingTo, IsReadTo, IsUnreadTo, end_listing}
 use Rattle.bolt_job.specs.{declared.choices.Extent.Extent, declared.bucket_commands.ListJob.ListJob, declared.choices.MetaChoice.MetaChoice}
 use Rattle.bolt_job.specs.{PlainWords.owned_path}
 use Rattle.bolt_commands.specs.declared.failure.Failure.TheVariants as failure
@@ -25,7 +25,7 @@ abbrev pub IsListedAnswer : Extent → List ℕ → MetaChoice → ListForm → 
 IsListedAnswer extent file choice form path from answer =
     ((meta : Meta) × (listing : List Member) × (lost : LostView) × (found : List FoundView) × IsReadTo extent file choice meta listing lost found
     × (lacking : Option Shortfall) × IsLackingTo extent file choice lost lacking
-    × IsPrinted Late (listing_part_text form path from listing) (part_ending path listing (shortfall_ending lacking)) answer)
+    × IsPrinted Late (listing_part_text form path from listing) (part_ending path listing (end_listing lacking)) answer)
     ⊎ ((why : Failure) × IsUnreadTo extent file choice why × (answer ≡ refused why))
 
 abbrev pub IsListPrint : ListJob → List ℕ → Answer → Type 0

@@ -1,11 +1,10 @@
--- What `info`, `page` and `pages` answer: docs/COMMANDS.md, "What is printed".
+-- What `info`, `page` and `pages` answer: docs/COMMANDS.md, "info", "page" and "pages".
 use Rattle.std.specs.Prelude.{◌≡◌, ◌⊎◌, ℕ, List, Bool, true, false, Option, Some, None}
 use Rattle.bolt_check.specs.{Roles.AreRoles, declared.role_table.Role.Role}
 use Rattle.bolt_format.specs.{Metas.HasNoActive, Metas.HasNoneInSlot, Metas.IsActive, Metas.IsInSlot, declared.page_fault.PageFault.PageFault}
 use Rattle.bolt_format.specs.{declared.meta.Meta.Meta}
 use Rattle.bolt_format.specs.{declared.meta.MetaFault.MetaFault, declared.meta.Slot.Slot}
 use Rattle.bolt_report.specs.{MetaLines.info_text, PageMaps.map_text, PageTables.pages_text, PageTexts.page_text, PageTexts.page_text_fault}
-use Rattle.bolt_report.specs.{RevisionLines.named_with}
 use Rattle.bolt_text.specs.declared.forms.FigureForm.{FigureForm}
 use Rattle.bolt_job.specs.{MetaChoices.HasNoMetaOf, MetaChoices.IsMetaOf, declared.choices.MetaChoice.MetaChoice}
 use Rattle.bolt_commands.specs.declared.failure.Failure.TheVariants as failure
@@ -18,7 +17,7 @@ page_answer (Some fault) text = refused (failure.Page fault)
 -- the meta that is shown: that of the slot that is named, or the active one
 abbrev pub IsShownMeta : List ℕ → Option Slot → Slot → Meta → Type 0
 IsShownMeta file None slot meta = IsActive file slot meta
-IsShownMeta file (Some named_with) slot meta = (slot ≡ named_with) × IsInSlot file named_with meta
+IsShownMeta file (Some named) slot meta = (slot ≡ named) × IsInSlot file named meta
 
 -- why there is none
 abbrev pub HasNoMeta : List ℕ → Option Slot → MetaFault → Type 0

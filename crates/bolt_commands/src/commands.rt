@@ -32,7 +32,8 @@ pub(crate) fn do_job<O: Sink, T: Sink>(
     out: &mut O,
     target: &mut T,
 ) -> Outcome
-    ensures { DoesJob O.taken O.failed out.old out.new T.taken T.failed target.old target.new input.entry.file.now job.now result }
+    ensures { DoesJob O.Sink out.old out.new T.Sink target.old target.new
+        input.entry.file.now job.now result }
 {
     match job {
         Job::Info(job) => info_command::do_info(input, job, out),

@@ -118,7 +118,7 @@ pub(crate) struct CopyReport<'l, 'f> {
 /// Ends a job that made a copy of this length: reports it, and returns the status.
 pub(crate) fn end_copy<O: Sink>(copy: u64, report: &CopyReport<'_, '_>, out: &mut O) -> Outcome
     requires { All IsFoundLeaf report.now.found.now }
-    ensures { WritesAnswer O.taken O.failed out.old out.new (report_answer report.now copy) result }
+    ensures { WritesAnswer O.Sink out.old out.new (report_answer report.now copy) result }
 {
     put_copy_report(report, copy, out)?;
     Ok(status_of(report.faults, report.lost, report.unread))

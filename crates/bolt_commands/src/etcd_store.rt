@@ -1,8 +1,8 @@
 //! What etcd keeps in a file, and how a command ends that printed some of it.
 ghost use Rattle.std.specs.Prelude.{◌≡◌, IfErr, IfOk, OnOk, false, true};
 ghost use Rattle.bolt_etcd.specs.{Store.StoreBuckets.ForStore, Check.StoreFaults.store_compacted};
-ghost use Rattle.bolt_commands.specs.{EtcdAnswers.is_compacted, EtcdAnswers.others_ending, EtcdAnswers.up_to, Private.Etcd.IsStoreRead};
-ghost use Rattle.bolt_commands.specs.{Private.Etcd.IsUnreadStore, Private.Etcd.end_of_revisions, declared.failure.Failure.TheVariants.Compacted};
+ghost use Rattle.bolt_commands.specs.{EtcdAnswers.is_compacted, EtcdAnswers.end_unread, EtcdAnswers.up_to, Private.Etcd.IsStoreRead};
+ghost use Rattle.bolt_commands.specs.{Private.Etcd.IsUnreadStore, Private.Etcd.end_revisions, declared.failure.Failure.TheVariants.Compacted};
 
 use crate::failure::{Failure, Outcome};
 use crate::opening::Input;
@@ -54,17 +54,17 @@ pub(crate) fn up_to(at: Option<u64>) -> u64
 
 /// How a job ends that wrote revisions.
 pub(crate) fn end_revisions(put: Result<u64, ReportFault>) -> Outcome
-    ensures { result ≡ end_of_revisions put }
+    ensures { result ≡ end_revisions put }
 {
-    end_others(put?)
+    end_unread(put?)
 }
 
 /// How a job ends if so many entries are neither revisions nor marks.
-pub(crate) fn end_others(others: u64) -> Outcome
-    ensures { result ≡ others_ending others }
+pub(crate) fn end_unread(unread: u64) -> Outcome
+    ensures { result ≡ end_unread unread }
 {
-    match others {
+    match unread {
         0 => Ok(0),
-        _ => Err(Failure::NotRevisions(others)),
+        _ => Err(Failure::NotRevisions(unread)),
     }
 }

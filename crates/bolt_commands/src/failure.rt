@@ -1,7 +1,7 @@
 //! Why a job isn't done, and how it ends.
 ghost use Rattle.std.specs.Prelude.{◌≡◌, Ok};
-ghost use Rattle.bolt_commands.specs.{Failures.IsFailureOf, Failures.copied, Failures.reported, Failures.unlisted, Failures.unloaded};
-ghost use Rattle.bolt_commands.specs.{Failures.unrestored, FilesRead.shortfall_ending, Private.Endings.end_written, Private.Endings.ending_by};
+ghost use Rattle.bolt_commands.specs.{Failures.IsFailureOf, Failures.copy_failure, Failures.report_failure, Failures.join_failure, Failures.load_failure};
+ghost use Rattle.bolt_commands.specs.{Failures.repair_failure, FilesRead.end_listing, Private.Endings.end_write, Private.Endings.end_report};
 ghost use Rattle.bolt_commands.specs.declared.failure.Failure.TheVariants as failure;
 
 use crate::shortfall::Shortfall;
@@ -10,7 +10,7 @@ use bolt_check::{CheckFault, Finding, NoMemory};
 use bolt_etcd::SnapshotFault;
 use bolt_format::{MetaFault, PageFault, SinkFault};
 use bolt_load::{LineFault, LoadFault};
-use bolt_recover::RecoverFault;
+use bolt_recover::JoinFault;
 use bolt_repair::RepairFault;
 use bolt_report::ReportFault;
 use std::alloc::AllocFailed;
@@ -67,16 +67,16 @@ pub enum Failure {
 pub(crate) type Outcome = Result<u8, Failure>;
 
 /// How a job ends that put a text.
-pub(crate) fn ended(put: Result<(), ReportFault>) -> Outcome
-    ensures { result ≡ ending_by put (Ok 0) }
+pub(crate) fn end_report(put: Result<(), ReportFault>) -> Outcome
+    ensures { result ≡ end_report put (Ok 0) }
 {
     put?;
     Ok(0)
 }
 
 /// How a job ends that wrote a text.
-pub(crate) fn written(put: Result<(), SinkFault>) -> Outcome
-    ensures { result ≡ end_written put (Ok 0) }
+pub(crate) fn end_write(put: Result<(), SinkFault>) -> Outcome
+    ensures { result ≡ end_write put (Ok 0) }
 {
     put?;
     Ok(0)
@@ -84,7 +84,7 @@ pub(crate) fn written(put: Result<(), SinkFault>) -> Outcome
 
 /// How a job ends that put what is wanted of a listing, if that lacks this.
 pub(crate) fn end_listing(shortfall: Option<Shortfall>) -> Outcome
-    ensures { result ≡ shortfall_ending shortfall }
+    ensures { result ≡ end_listing shortfall }
 {
     match shortfall {
         None => Ok(0),
@@ -130,21 +130,21 @@ impl From<CheckFault> for Failure {
     }
 }
 
-impl From<RecoverFault> for Failure {
-    ghost from_gives = { λ fault result. result ≡ unlisted fault };
+impl From<JoinFault> for Failure {
+    ghost from_gives = { λ fault result. result ≡ join_failure fault };
 
-    fn from(fault: RecoverFault) -> Failure {
+    fn from(fault: JoinFault) -> Failure {
         match fault {
-            RecoverFault::Rootless(finding) => Failure::File(finding),
-            RecoverFault::Exists => Failure::Exists,
-            RecoverFault::TooManyPages => Failure::TooManyPages,
-            RecoverFault::Memory => Failure::Memory,
+            JoinFault::Rootless(finding) => Failure::File(finding),
+            JoinFault::Exists => Failure::Exists,
+            JoinFault::TooManyPages => Failure::TooManyPages,
+            JoinFault::Memory => Failure::Memory,
         }
     }
 }
 
 impl From<RepairFault> for Failure {
-    ghost from_gives = { λ fault result. result ≡ unrestored fault };
+    ghost from_gives = { λ fault result. result ≡ repair_failure fault };
 
     fn from(fault: RepairFault) -> Failure {
         match fault {
@@ -165,7 +165,7 @@ impl From<SinkFault> for Failure {
 }
 
 impl From<ReportFault> for Failure {
-    ghost from_gives = { λ fault result. result ≡ reported fault };
+    ghost from_gives = { λ fault result. result ≡ report_failure fault };
 
     fn from(fault: ReportFault) -> Failure {
         match fault {
@@ -177,7 +177,7 @@ impl From<ReportFault> for Failure {
 }
 
 impl From<BulkFault> for Failure {
-    ghost from_gives = { λ fault result. result ≡ copied fault };
+    ghost from_gives = { λ fault result. result ≡ copy_failure fault };
 
     fn from(fault: BulkFault) -> Failure {
         match fault {
@@ -189,7 +189,7 @@ impl From<BulkFault> for Failure {
 }
 
 impl From<LoadFault> for Failure {
-    ghost from_gives = { λ fault result. result ≡ unloaded fault };
+    ghost from_gives = { λ fault result. result ≡ load_failure fault };
 
     fn from(fault: LoadFault) -> Failure {
         match fault {

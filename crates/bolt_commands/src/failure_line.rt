@@ -32,9 +32,9 @@ fn put_failure_text<E: Sink>(failure: &Failure, err: &mut E) -> Result<(), SinkF
         Failure::NoKey => put(b"key not found\n", err),
         Failure::NoState => put(b"no state found\n", err),
         Failure::BucketMaybeLost(shortfall) => {
-            put_missing_file(b"bucket not found; ", *shortfall, err)
+            put_maybe_lost(b"bucket not found; ", *shortfall, err)
         }
-        Failure::KeyMaybeLost(shortfall) => put_missing_file(b"key not found; ", *shortfall, err),
+        Failure::KeyMaybeLost(shortfall) => put_maybe_lost(b"key not found; ", *shortfall, err),
         Failure::Memory => put(b"out of memory\n", err),
         Failure::TooLarge => put(b"layout too large\n", err),
         Failure::TooManyPages => put(b"too many pages\n", err),
@@ -57,15 +57,15 @@ fn put_file_refused<E: Sink>(finding: &Finding, err: &mut E) -> Result<(), SinkF
     finding_text(finding, err)
 }
 
-/// Writes what isn't there, and why it may be missing.
-fn put_missing_file<E: Sink>(
-    words: &[u8],
+/// Writes that something wasn't found, and why it may be lost.
+fn put_maybe_lost<E: Sink>(
+    not_found: &[u8],
     shortfall: Shortfall,
     err: &mut E,
 ) -> Result<(), SinkFault>
-    ensures { Wrote E.Sink err.old err.new (words.now ++ shortfall_text shortfall) (ending result) }
+    ensures { Wrote E.Sink err.old err.new (not_found.now ++ shortfall_text shortfall) (ending result) }
 {
-    put(words, err)?;
+    put(not_found, err)?;
     put_shortfall(shortfall, err)
 }
 

@@ -71,7 +71,7 @@ pub(crate) fn copy_hashed<C: CopySource + Drop, T: Sink>(
     requires { C.is_whole source }
     ensures same { C.borrow result.0 ≡ C.borrow source }
     ensures copied { (layout : List ℕ) → C.has_layout source blueprint.now layout
-        → EndsCopy T.taken T.failed target.old target.new layout true result.1 }
+        → EndsCopy T.Sink target.old target.new layout true result.1 }
     ensures end { OnOk result.1 (C.ends_as source result.0) }
 {
     let HashedCopy {
@@ -136,7 +136,7 @@ fn put_hash<T: Sink>(copied: Copied, hash: Sha256, target: &mut T) -> Result<u64
     ensures copied { (begun : T) (layout : List ℕ)
         → Copies T.taken T.failed begun target.old layout copied
         → (T.failed target.old ≡ 0 → ∥ HashesSince (T.taken begun) (T.taken target.old) hash ∥₁)
-        → EndsCopy T.taken T.failed begun target.new layout true result }
+        → EndsCopy T.Sink begun target.new layout true result }
 {
     let done = copied?;
     target.put(&hash.finalize())?;

@@ -51,8 +51,8 @@ pub fn run<O: Sink, E: Sink, T: Sink>(
     target: &mut T,
 ) -> Status
     ensures { (ending : JobEnding)
-        × DoesJob O.taken O.failed out.old out.new T.taken T.failed target.old target.new file.now job.now ending
-        × (result.code ≡ status_of ending) × Reports E.taken E.failed err.old err.new ending }
+        × DoesJob O.Sink out.old out.new T.Sink target.old target.new file.now job.now ending
+        × (result.code ≡ status_of ending) × Reports E.Sink err.old err.new ending }
 {
     match do_job(Input { alloc, file }, job, out, target) {
         Ok(code) => Status { code },
@@ -63,7 +63,7 @@ pub fn run<O: Sink, E: Sink, T: Sink>(
 /// Reports a failure. The status is the same if its line can't be written.
 fn report<E: Sink>(failure: &Failure, err: &mut E) -> Status
     ensures status { result.code ≡ 1 }
-    ensures line { Accepts E.taken E.failed err.old err.new (failure_line failure.now) }
+    ensures line { Accepts E.Sink err.old err.new (failure_line failure.now) }
 {
     let _ = put_failure(failure, err);
     Status { code: 1 }

@@ -1,7 +1,7 @@
 //! The names that `buckets` and `keys` print of what is recovered of a damaged file.
 ghost use Rattle.std.specs.Prelude.{◌≡◌};
 ghost use Rattle.bolt_commands.specs.{KeyAnswers.no_bucket, Private.Printing.PrintsAnswer, Private.Recovered.IsNamesPrint};
-ghost use Rattle.bolt_commands.specs.{Private.Recovered.bucket_ending};
+ghost use Rattle.bolt_commands.specs.{Private.Recovered.end_names};
 
 use crate::failure::{Failure, Outcome, end_listing};
 use crate::file_faults::metas_fault;
@@ -47,7 +47,7 @@ pub(crate) fn name_recovered<O: Sink>(
 
 /// How a job ends that put what is recovered of a bucket, if it was found.
 fn end_names(found: bool, shortfall: Option<Shortfall>) -> Outcome
-    ensures { result ≡ bucket_ending found shortfall }
+    ensures { result ≡ end_names found shortfall }
 {
     if found {
         end_listing(shortfall)

@@ -212,7 +212,7 @@ fn visit_all<'f>(input: Input<'f>, meta: Meta) -> Result<Recovery<'f>, NoMemory>
 
 /// Writes why nothing is recovered.
 fn put_unopened<O: Sink>(failure: Failure, faults: FileFaults, out: &mut O) -> Outcome
-    ensures { WritesAnswer O.taken O.failed out.old out.new (unopened faults failure) result }
+    ensures { WritesAnswer O.Sink out.old out.new (unopened faults failure) result }
 {
     match failure {
         Failure::Open(fault) => put_faults_without_meta(fault, faults, out),
@@ -228,7 +228,7 @@ fn put_refusal<O: Sink>(
     faults: FileFaults,
     out: &mut O,
 ) -> Outcome
-    ensures { WritesAnswer O.taken O.failed out.old out.new
+    ensures { WritesAnswer O.Sink out.old out.new
         (check_refusal faults (map page_gap_view gaps.now) fault.now) result }
 {
     match fault {
@@ -248,7 +248,7 @@ fn put_refusal<O: Sink>(
 
 /// Writes what else is wrong with a file that has no valid meta. The failure says that.
 fn put_faults_without_meta<O: Sink>(fault: MetaFault, faults: FileFaults, out: &mut O) -> Outcome
-    ensures { WritesAnswer O.taken O.failed out.old out.new
+    ensures { WritesAnswer O.Sink out.old out.new
         (check_refusal faults [] (check.Open fault)) result }
 {
     put_file_faults(faults, out)?;
@@ -261,7 +261,7 @@ fn put_findings_after<O: Sink>(
     faults: FileFaults,
     out: &mut O,
 ) -> Outcome
-    ensures { WritesAnswer O.taken O.failed out.old out.new
+    ensures { WritesAnswer O.Sink out.old out.new
         (findings_answer faults findings.now (map page_gap_view gaps.now)) result }
 {
     let earlier = put_file_faults(faults, out)?;
@@ -279,7 +279,7 @@ fn put_lost_after<O: Sink>(
     out: &mut O,
 ) -> Outcome
     requires { All IsFoundLeaf found.now }
-    ensures { WritesAnswer O.taken O.failed out.old out.new (lost_and_found_answer faults
+    ensures { WritesAnswer O.Sink out.old out.new (lost_and_found_answer faults
         (lost_view lost.entry) (map page_gap_view gaps.now) (map found_view found.now)) result }
 {
     let earlier = put_file_faults(faults, out)?;

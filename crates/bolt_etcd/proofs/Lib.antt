@@ -28,7 +28,7 @@ mod NoFaults
 mod NothingFound
 mod NumberSteps
 mod NumberedShown
-mod OtherCounts
+mod UnreadCounts
 mod OtherSteps
 mod PassSteps
 mod Passing

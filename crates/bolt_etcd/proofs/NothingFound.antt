@@ -15,15 +15,15 @@ use Rattle.bolt_etcd.specs.{Histories.Transactions.Transaction, Histories.Transa
 use Rattle.bolt_etcd.specs.{Check.Misplaced.is_misplaced, Check.Misplaced.misplaced}
 use Rattle.bolt_etcd.specs.{Check.MissingNumbers.is_of_later, Check.MissingNumbers.keys_above, Check.MissingNumbers.missing_after}
 use Rattle.bolt_etcd.specs.{Check.MissingNumbers.missing_numbers, Check.NameFaults.name_faults, Wire.Numbered.numbered, Wire.Numbered.numbered_of}
-use Rattle.bolt_etcd.specs.{Wire.UnreadEntries.UnreadView, Wire.UnreadEntries.others_of, Wire.Revisions.RevisionView, Wire.Revisions.revision_of}
+use Rattle.bolt_etcd.specs.{Wire.UnreadEntries.UnreadView, Wire.UnreadEntries.unread_entries, Wire.Revisions.RevisionView, Wire.Revisions.revision_of}
 use Rattle.bolt_etcd.specs.{Histories.Possible.ArePossible, Store.StoreBuckets.StoreView, Store.Stores.revisions}
 use Rattle.bolt_etcd.specs.Histories.WholeStores.{GrantsLeases, HoldsExactly}
 use Rattle.bolt_etcd.specs.Check.StoreFaults.{missing_bucket_lines, entry_lines, key_lines, line_without, name_lines, store_granted}
 use Rattle.bolt_etcd.specs.Check.StoreFaults.{store_lines}
 use Rattle.bolt_etcd.specs.Store.BucketNames.{bucket_names, key_bucket}
 use Rattle.bolt_etcd.proofs.{FaultsOfNames.faults_named, FaultsOfNames.none_of_any, HistoryNumbers.none_missing}
-use Rattle.bolt_etcd.proofs.{HistorySteps.IsWritten, HistorySteps.each, HistorySteps.goes, HistorySteps.stored_keys_rise, OtherCounts.is_numbered}
-use Rattle.bolt_etcd.proofs.{OtherCounts.no_other, WholeNames.no_faults}
+use Rattle.bolt_etcd.proofs.{HistorySteps.IsWritten, HistorySteps.each, HistorySteps.goes, HistorySteps.stored_keys_rise, UnreadCounts.is_numbered}
+use Rattle.bolt_etcd.proofs.{UnreadCounts.not_unread, WholeNames.no_faults}
 
 -- ---- buckets
 
@@ -52,14 +52,14 @@ shown_are shows one (e ∷ entries) (r ∷ rs) are =
     let later : map (λ (f : LeafElement). revision_of (entry_view f)) entries ≡ map Some rs = cc in
     rw (one (entry_view e) r first) (ap (λ (l : List RevisionView). r ∷ l) (shown_are shows one entries rs later))
 
-no_others : (entries : List LeafElement) (rs : List RevisionView) → map (λ (e : LeafElement). revision_of (entry_view e)) entries ≡ map Some rs
-    → others_of entries ≡ []
-no_others [] rs are = refl
-no_others (e ∷ entries) [] are = cc
-no_others (e ∷ entries) (r ∷ rs) are =
+none_unread : (entries : List LeafElement) (rs : List RevisionView) → map (λ (e : LeafElement). revision_of (entry_view e)) entries ≡ map Some rs
+    → unread_entries entries ≡ []
+none_unread [] rs are = refl
+none_unread (e ∷ entries) [] are = cc
+none_unread (e ∷ entries) (r ∷ rs) are =
     let first : revision_of (entry_view e) ≡ Some r = cc in
     let later : map (λ (f : LeafElement). revision_of (entry_view f)) entries ≡ map Some rs = cc in
-    ap (λ (o : Option UnreadView). cons_option o (others_of entries)) (no_other (entry_view e) r first) ∙ no_others entries rs later
+    ap (λ (o : Option UnreadView). cons_option o (unread_entries entries)) (not_unread (entry_view e) r first) ∙ none_unread entries rs later
 
 -- ---- what holds of each revision
 
@@ -99,7 +99,7 @@ module _ (compacted : ℕ) (ts : List Transaction) (keeps : RevisionView → Boo
 
     no_entry_lines : entry_lines (Some compacted) is.entries ≡ []
     no_entry_lines =
-        rw (no_others is.entries (kept_revisions keeps ts) is.revisions, own, there_are, none_misplaced, no_number) refl
+        rw (none_unread is.entries (kept_revisions keeps ts) is.revisions, own, there_are, none_misplaced, no_number) refl
 
     no_name_lines : name_lines (Some compacted) (store_granted store) store.by_name ≡ []
     no_name_lines =

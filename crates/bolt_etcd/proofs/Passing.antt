@@ -10,9 +10,9 @@ use Rattle.bolt_tree.specs.{Entries.entry_view}
 use Rattle.bolt_tree.specs.{EntriesLeft.entries_left, FileTrees.file_entries, Places.Past, Places.Place, Places.least_from, Places.next_move}
 use Rattle.bolt_tree.specs.{Places.place_in, Places.seek_move}
 use Rattle.bolt_tree.specs.{declared.cursor.Cursor.Cursor}
-use Rattle.bolt_etcd.specs.{Wire.UnreadEntries.UnreadView, Wire.UnreadEntries.other_of, Private.Passes.ShowsFirst, Wire.Revisions.RevisionView}
-use Rattle.bolt_etcd.specs.{Wire.Revisions.revision_of, Store.Stores.entries_from, Store.Stores.others, Store.Stores.revisions}
-use Rattle.bolt_etcd.proofs.OtherCounts.{no_other, one_more}
+use Rattle.bolt_etcd.specs.{Wire.UnreadEntries.UnreadView, Wire.UnreadEntries.unread_entry_of, Private.Passes.ShowsFirst, Wire.Revisions.RevisionView}
+use Rattle.bolt_etcd.specs.{Wire.Revisions.revision_of, Store.Stores.entries_from, Store.Stores.unread_elements, Store.Stores.revisions}
+use Rattle.bolt_etcd.proofs.UnreadCounts.{not_unread, one_more}
 
 shows : (old new : List LeafElement) (x : Option EntryView) (o : Option LeafElement) → x ≡ option_map entry_view o → TakesFirst old new o
     → (x ≡ None → new ≡ []) → ShowsFirst old new x
@@ -63,19 +63,19 @@ gives old new v r (e, shown, first) is = ap revisions first ∙ passed (revision
 pub passes : (old new : List LeafElement) (v : EntryView) → ShowsFirst old new (Some v) → revision_of v ≡ None → revisions old ≡ revisions new
 passes old new v (e, shown, first) is = ap revisions first ∙ ap (λ (o : Option RevisionView). cons_option o (revisions new)) (sym (ap revision_of shown) ∙ is)
 
-others_if : (o x : Option UnreadView) (e : LeafElement) (rest : List LeafElement) → o ≡ x
+unread_if : (o x : Option UnreadView) (e : LeafElement) (rest : List LeafElement) → o ≡ x
     → cond (is_some o) (e ∷ rest) rest ≡ cond (is_some x) (e ∷ rest) rest
-others_if o x e rest is = ap (λ (z : Option UnreadView). cond (is_some z) (e ∷ rest) rest) is
+unread_if o x e rest is = ap (λ (z : Option UnreadView). cond (is_some z) (e ∷ rest) rest) is
 
 pub counts_none : (old new : List LeafElement) (v : EntryView) (r : RevisionView) → ShowsFirst old new (Some v) → revision_of v ≡ Some r
-    → others old ≡ others new
-counts_none old new v r (e, shown, first) is = ap others first ∙ others_if _ _ e (others new) (sym (ap other_of shown) ∙ no_other v r is)
+    → unread_elements old ≡ unread_elements new
+counts_none old new v r (e, shown, first) is = ap unread_elements first ∙ unread_if _ _ e (unread_elements new) (sym (ap unread_entry_of shown) ∙ not_unread v r is)
 
 pub counts_one : (old new : List LeafElement) (v : EntryView) → ShowsFirst old new (Some v)
-    → length (others old) ≡ length (option_to_list (other_of v)) + length (others new)
+    → length (unread_elements old) ≡ length (option_to_list (unread_entry_of v)) + length (unread_elements new)
 counts_one old new v (e, shown, first) =
-    ap length (ap others first ∙ others_if (other_of (entry_view e)) (other_of v) e (others new) (sym (ap other_of shown)))
-    ∙ one_more e (other_of v) (others new)
+    ap length (ap unread_elements first ∙ unread_if (unread_entry_of (entry_view e)) (unread_entry_of v) e (unread_elements new) (sym (ap unread_entry_of shown)))
+    ∙ one_more e (unread_entry_of v) (unread_elements new)
 
 pub fewer : (old new : List LeafElement) (v : EntryView) → ShowsFirst old new (Some v) → length new < length old
 fewer old new v (e, shown, first) = let n = ap length first in omega (arith, n)

@@ -8,11 +8,11 @@ use Rattle.bolt_tree.proofs.Exports.{counted_more}
 use Rattle.bolt_tree.specs.{Buckets.bucket_checked, Buckets.bucket_start, Entries.EntryView, Entries.Start, EntriesLeft.ForEntries}
 use Rattle.bolt_tree.specs.{EntriesLeft.ForBucket, FileTrees.file_entries}
 use Rattle.bolt_tree.specs.declared.bucket.Bucket.{Bucket}
-use Rattle.bolt_etcd.specs.{Wire.UnreadEntries.other_of, Private.Passes.ShowsFirst, Wire.Revisions.RevisionView, Wire.Revisions.revision_of}
-use Rattle.bolt_etcd.specs.{Store.Stores.others, Store.Stores.revisions}
-use Rattle.bolt_etcd.specs.Store.RevisionsLeft.{CountsOthers, ForPass, GivesFirst, OpensOne, ahead_of, begins_with_other, number_ahead}
+use Rattle.bolt_etcd.specs.{Wire.UnreadEntries.unread_entry_of, Private.Passes.ShowsFirst, Wire.Revisions.RevisionView, Wire.Revisions.revision_of}
+use Rattle.bolt_etcd.specs.{Store.Stores.unread_elements, Store.Stores.revisions}
+use Rattle.bolt_etcd.specs.Store.RevisionsLeft.{CountsUnread, ForPass, GivesFirst, OpensOne, ahead_of, begins_with_other, number_ahead}
 use Rattle.bolt_etcd.specs.Store.RevisionsLeft.{pass_checked, pass_viewers}
-use Rattle.bolt_etcd.specs.Store.RevisionsLeft.{pass_entries, pass_others, pass_start}
+use Rattle.bolt_etcd.specs.Store.RevisionsLeft.{pass_entries, pass_unread, pass_start}
 use Rattle.bolt_etcd.specs.declared.store.revisions.Revisions.{Revisions}
 use Rattle.bolt_etcd.proofs.Passing.{are_entries, counts_none, counts_one, fewer, gives, passes}
 
@@ -21,7 +21,7 @@ pub record Goes (old here : Revisions) : Type 0 where
   pub checked : pass_checked here ≡ pass_checked old
   pub start : pass_start here ≡ pass_start old
   pub same : ForPass old (λ entries. revisions (ahead_of old entries) ≡ revisions (ahead_of here entries))
-  pub counts : ForPass old (λ entries. CountsOthers (ahead_of old entries) (ahead_of here entries) (pass_others old) (pass_others here))
+  pub counts : ForPass old (λ entries. CountsUnread (ahead_of old entries) (ahead_of here entries) (pass_unread old) (pass_unread here))
   pub behind : length (ahead_of here (pass_entries old)) ≤ length (ahead_of old (pass_entries old))
 
 pub goes_none : (pass : Revisions) → Goes pass pass
@@ -39,8 +39,8 @@ over_all bucket checked start ahead whole Q file begins all each = λ entries ar
     subst Q (moved_to _ _ _ _ (λ es. ahead es ≡ whole es) file begins all entries are) (moved_to _ _ _ _ (λ es. Q (ahead es)) file begins each entries are)
 
 -- the same pass, after one more of the entries that aren't revisions
-abbrev pub with_others : Revisions → ℕ → Revisions
-with_others pass n = record { cursor = pass.cursor; from = pass.from; others = n }
+abbrev pub with_unread : Revisions → ℕ → Revisions
+with_unread pass n = record { cursor = pass.cursor; from = pass.from; unread = n }
 
 module _ (old here next : Revisions) (x : Option EntryView) (goes : Goes old here)
     (first : ForPass here (λ entries. ShowsFirst (ahead_of here entries) (ahead_of next entries) x)) where
@@ -54,7 +54,7 @@ module _ (old here next : Revisions) (x : Option EntryView) (goes : Goes old her
 
   pub goes_on : (v : EntryView) (n : ℕ) → x ≡ Some v → revision_of v ≡ None → pass_checked next ≡ pass_checked here
       → pass_start next ≡ pass_start here
-      → n ≡ counted (pass_others here) (length (option_to_list (other_of v))) → Goes old (with_others next n)
+      → n ≡ counted (pass_unread here) (length (option_to_list (unread_entry_of v))) → Goes old (with_unread next n)
   unfolding pass_viewers
   goes_on v n is other file start more = record {
     checked = file ∙ goes.checked;
@@ -62,9 +62,9 @@ module _ (old here next : Revisions) (x : Option EntryView) (goes : Goes old her
     same = λ entries are. goes.same entries are ∙ passes _ _ v (rw is at (first_here entries are)) other;
     counts = λ entries are.
         let one = counts_one _ _ v (rw is at (first_here entries are)) in
-        ap (λ (k : ℕ). counted k (length (others (ahead_of next entries)))) more
-        ∙ counted_more (pass_others here) (length (option_to_list (other_of v))) (length (others (ahead_of next entries)))
-        ∙ ap (counted (pass_others here)) (omega (arith, one))
+        ap (λ (k : ℕ). counted k (length (unread_elements (ahead_of next entries)))) more
+        ∙ counted_more (pass_unread here) (length (option_to_list (unread_entry_of v))) (length (unread_elements (ahead_of next entries)))
+        ∙ ap (counted (pass_unread here)) (omega (arith, one))
         ∙ goes.counts entries are;
     behind = let less = falls v is in let before = goes.behind in omega (arith, less, before);
   }
@@ -73,8 +73,8 @@ module _ (old here next : Revisions) (x : Option EntryView) (goes : Goes old her
       → ForPass old (λ entries. GivesFirst (ahead_of old entries) (ahead_of next entries) (Some r))
   some_given v r is found = λ entries are. goes.same entries are ∙ gives _ _ v r (rw is at (first_here entries are)) found
 
-  pub some_counts : (v : EntryView) (r : RevisionView) → x ≡ Some v → revision_of v ≡ Some r → pass_others next ≡ pass_others here
-      → ForPass old (λ entries. CountsOthers (ahead_of old entries) (ahead_of next entries) (pass_others old) (pass_others next))
+  pub some_counts : (v : EntryView) (r : RevisionView) → x ≡ Some v → revision_of v ≡ Some r → pass_unread next ≡ pass_unread here
+      → ForPass old (λ entries. CountsUnread (ahead_of old entries) (ahead_of next entries) (pass_unread old) (pass_unread next))
   some_counts v r is found same = grind (arith, counts_none)
 
   -- and so fewer than at first

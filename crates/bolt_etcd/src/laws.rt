@@ -16,9 +16,9 @@ ghost use Rattle.bolt_etcd.specs.{Histories.FewTransactions.second_b, Histories.
 ghost use Rattle.bolt_etcd.specs.{Histories.Transactions.AreOfState, Histories.Transactions.state_at, Store.Newest.until, Histories.Taken.IsShownBy};
 ghost use Rattle.bolt_etcd.specs.{Histories.Taken.IsTaken, Histories.Taken.ReportsOneBefore, Histories.ReportedRevisions.IsMissingRevision};
 ghost use Rattle.bolt_etcd.specs.{Histories.ReportedRevisions.IsReportedRevision};
-ghost use Rattle.bolt_etcd.specs.{Wire.Numbered.ForMarks, Wire.Numbered.numbered_in, Wire.Numbered.numbered_of, Wire.UnreadEntries.other_by};
-ghost use Rattle.bolt_etcd.specs.{Wire.UnreadEntries.other_of, Wire.UnreadEntries.others_of, Wire.Records.empty, Wire.Revisions.revision_in};
-ghost use Rattle.bolt_etcd.specs.{Wire.Revisions.revision_of, Store.Stores.others};
+ghost use Rattle.bolt_etcd.specs.{Wire.Numbered.ForMarks, Wire.Numbered.numbered_in, Wire.Numbered.numbered_of, Wire.UnreadEntries.unread_by_value};
+ghost use Rattle.bolt_etcd.specs.{Wire.UnreadEntries.unread_entry_of, Wire.UnreadEntries.unread_entries, Wire.Records.empty, Wire.Revisions.revision_in};
+ghost use Rattle.bolt_etcd.specs.{Wire.Revisions.revision_of, Store.Stores.unread_elements};
 ghost use Rattle.bolt_etcd.specs.{Wire.RevisionKeys.IsSpelled, Wire.RevisionKeys.numbers_cmp, Wire.RevisionKeys.revision_key};
 ghost use Rattle.bolt_etcd.specs.{Wire.RevisionKeys.spelling, Wire.Fields.field_and_later, Wire.Fields.fields};
 ghost use Rattle.bolt_etcd.specs.declared.wire.revision_key.RevisionKey.{RevisionKey};
@@ -63,19 +63,19 @@ pub fn revision_keys_are_in_the_order_of_their_numbers()
 
 /// An entry is a revision or a mark, or it is listed with why it isn't one: so as many are listed as
 /// are counted.
-#[tactic(auto, using(crate::proofs::OtherCounts::as_many, crate::proofs::OtherCounts::one_of_two, crate::proofs::OtherCounts::is_numbered))]
+#[tactic(auto, using(crate::proofs::UnreadCounts::as_many, crate::proofs::UnreadCounts::one_of_two, crate::proofs::UnreadCounts::is_numbered))]
 pub fn an_entry_is_a_revision_or_another()
-    ensures one { (e : EntryView) → is_some (other_of e) ≡ not (is_some (numbered_of e)) }
+    ensures one { (e : EntryView) → is_some (unread_entry_of e) ≡ not (is_some (numbered_of e)) }
     ensures revision { (e : EntryView) (r : RevisionView)
         → revision_of e ≡ Some r → numbered_of e ≡ Some r }
     ensures number { (entries : List LeafElement)
-        → length (others_of entries) ≡ length (others entries) }
+        → length (unread_entries entries) ≡ length (unread_elements entries) }
 {}
 
 /// A mark is no revision, and isn't counted with those that aren't. It is there by its number alone.
 pub fn a_mark_has_a_number_alone()
     ensures revision { ForMarks (λ key value k. revision_in key value ≡ None) }
-    ensures other { ForMarks (λ key value k. other_by key (Some value) ≡ None) }
+    ensures other { ForMarks (λ key value k. unread_by_value key (Some value) ≡ None) }
     ensures number { ForMarks (λ key value k. numbered_in key value
         ≡ Some (record { stored_key = key; key = k; content = empty })) }
 {}

@@ -2,7 +2,7 @@
 use Rattle.std.proofs.Common.{◌≡◌, ◌∙◌, ◌↔◌, ◌⊎◌, ◌||◌, inl, inr, ℕ, suc, Bool, true, false, arith, List, [], ◌∷◌, Option, Some, None, refl, sym, ap}
 use Rattle.std.proofs.Common.{subst}
 use Rattle.bolt_lemmas.proofs.Exports.{either_or}
-use Rattle.bolt_recover.proofs.Words.{all_events, AreFound, AreFoundAnyway, AreGaps, AreKeptPages, AreLosses, At_page, claims_of, Contains}
+use Rattle.bolt_recover.proofs.Words.{all_events, AreFound, AreFoundInAnyCase, AreGaps, AreKeptPages, AreLosses, At_page, claims_of, Contains}
 use Rattle.bolt_recover.proofs.Words.{contains_cases, contains_head, contains_none, contains_tail, Event, false≢true, Finding, first_claimed}
 use Rattle.bolt_recover.proofs.Words.{FoundBelow, Has, HasSoundTrees, IsFoundPage, IsKeptPage, IsListedFree, IsLoneLeaf, IsMetaPage, IsRecovered}
 use Rattle.bolt_recover.proofs.Words.{IsSurvey, way_kept, LosesNothing, LosesRoot, lost, Member, members_of, Meta, meta_pages, nat_tests, node_at}
@@ -34,9 +34,9 @@ module _ (file : List ℕ) (meta : Meta) where
       → FoundBelow file meta (IsKeptPage file meta survey) meta.high_water found → AreFound file meta found
   are_some found survey way x is has below = grind arith
 
-  pub found_anyway : (claimed taken : ℕ → Bool) (found : List ℕ) → AreKeptPages file meta claimed → ((n : ℕ) → taken n ≡ claimed n)
-      → FoundBelow file meta (λ n. taken n ≡ true) meta.high_water found → AreFoundAnyway file meta found
-  found_anyway claimed taken found are same below =
+  pub found_in_any_case : (claimed taken : ℕ → Bool) (found : List ℕ) → AreKeptPages file meta claimed → ((n : ℕ) → taken n ≡ claimed n)
+      → FoundBelow file meta (λ n. taken n ≡ true) meta.high_water found → AreFoundInAnyCase file meta found
+  found_in_any_case claimed taken found are same below =
       let (survey, is) = has_survey file meta in
       record {
         survey = survey;
@@ -49,10 +49,10 @@ module _ (file : List ℕ) (meta : Meta) where
       → (HasSoundTrees file meta → ⊥)
       → FoundBelow file meta (λ n. taken n ≡ true) meta.high_water found → AreFound file meta found
   found_damaged claimed taken found are same damaged below =
-      let anyway = found_anyway claimed taken found are same below in
-      elim (lost_or_none anyway.survey) [
-        | inl none ↦ absurd (damaged (sound file meta anyway.survey anyway.surveys none))
-        | inr (way, x, gone) ↦ are_some found anyway.survey way x anyway.surveys gone anyway.all
+      let in_any_case = found_in_any_case claimed taken found are same below in
+      elim (lost_or_none in_any_case.survey) [
+        | inl none ↦ absurd (damaged (sound file meta in_any_case.survey in_any_case.surveys none))
+        | inr (way, x, gone) ↦ are_some found in_any_case.survey way x in_any_case.surveys gone in_any_case.all
       ]
 
   -- the found pages next to the kept ones of the survey

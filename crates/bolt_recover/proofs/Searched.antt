@@ -22,67 +22,67 @@ key_lacks (m ∷ listing) e o has = let later = key_lacks listing in grind (arit
 parts_some : (losses : List LossView) (x : Finding) → parts losses ≡ everything x → ⊥
 parts_some losses x is = cc
 
-module _ (both : LostAndFound) where
-  left : (trees : Trees) → both.trees ≡ trees → IsSearched both.file.now both.meta both.trees both.found.items
-      → AreTreesOf both.file.now both.meta both.found.items trees
-  left trees is searched = subst (AreTreesOf both.file.now both.meta both.found.items) is searched.left
+module _ (searched : LostAndFound) where
+  left : (trees : Trees) → searched.trees ≡ trees → IsSearched searched.file.now searched.meta searched.trees searched.found.items
+      → AreTreesOf searched.file.now searched.meta searched.found.items trees
+  left trees is facts = subst (AreTreesOf searched.file.now searched.meta searched.found.items) is facts.left
 
-  pub of_sound : (checked : Checked) → both.trees ≡ Sound checked
-      → (bytes_of checked ≡ both.file.now) × (meta_of checked ≡ both.meta) × (both.found.items ≡ [])
-  of_sound checked is = ∥∥₁_elim both.searched (hlevel props) (left (Sound checked) is)
+  pub of_sound : (checked : Checked) → searched.trees ≡ Sound checked
+      → (bytes_of checked ≡ searched.file.now) × (meta_of checked ≡ searched.meta) × (searched.found.items ≡ [])
+  of_sound checked is = ∥∥₁_elim searched.searched (hlevel props) (left (Sound checked) is)
 
-  pub trees_sound : (checked : Checked) → both.trees ≡ Sound checked → ∥ HasSoundTrees both.file.now both.meta ∥₁
+  pub trees_sound : (checked : Checked) → searched.trees ≡ Sound checked → ∥ HasSoundTrees searched.file.now searched.meta ∥₁
   trees_sound checked is = grind (arith, of_sound checked is, checked_trees checked)
 
   -- trees whose root page is kept
-  pub not_everything : (losses : List LossView) → lost_of both.trees ≡ parts losses → (x : Finding) → all_lost both ≡ everything x → ⊥
+  pub not_everything : (losses : List LossView) → lost_of searched.trees ≡ parts losses → (x : Finding) → all_lost searched ≡ everything x → ⊥
   unfolding all_lost
   not_everything losses is x all = grind (arith, parts_some)
 
   -- what is found can be joined, if there are few enough pages and room for the bucket
-  pub joinable : (found : List FoundPage) → found ≡ both.found.items → length both.file.now < 10 ^ 16 * both.meta.page_size
-      → (both.found.items ≢ [] → ForRecovered both.file.now both.meta LacksBucketKey)
-      → ∥ AreJoinable both.file.now both.meta found ∥₁
-  joinable found same few apart = ∥∥₁_map both.searched (λ searched. subst (AreJoinable both.file.now both.meta) (sym same) (record {
+  pub joinable : (found : List FoundPage) → found ≡ searched.found.items → length searched.file.now < 10 ^ 16 * searched.meta.page_size
+      → (searched.found.items ≢ [] → ForRecovered searched.file.now searched.meta LacksBucketKey)
+      → ∥ AreJoinable searched.file.now searched.meta found ∥₁
+  joinable found same few apart = ∥∥₁_map searched.searched (λ facts. subst (AreJoinable searched.file.now searched.meta) (sym same) (record {
     few = few;
-    are_found = searched.are_found;
-    views = searched.views;
+    are_found = facts.are_found;
+    views = facts.views;
     apart = apart;
   }))
 
-  module _ (damage : Damage) (is : both.trees ≡ Damaged damage) where
-    pub has_key : damage.has_bucket_key ≡ true → ForRecovered both.file.now both.meta HasBucketKey
+  module _ (damage : Damage) (is : searched.trees ≡ Damaged damage) where
+    pub has_key : damage.has_bucket_key ≡ true → ForRecovered searched.file.now searched.meta HasBucketKey
     has_key same listing recovers =
-        key_held listing (∥∥₁_elim both.searched (hlevel props) (λ searched. sym ((left (Damaged damage) is searched).key listing recovers) ∙ same))
+        key_held listing (∥∥₁_elim searched.searched (hlevel props) (λ facts. sym ((left (Damaged damage) is facts).key listing recovers) ∙ same))
 
-    pub lacks_key : damage.has_bucket_key ≡ false → ForRecovered both.file.now both.meta LacksBucketKey
+    pub lacks_key : damage.has_bucket_key ≡ false → ForRecovered searched.file.now searched.meta LacksBucketKey
     lacks_key other listing recovers =
-        key_lacks listing (∥∥₁_elim both.searched (hlevel props) (λ searched. sym ((left (Damaged damage) is searched).key listing recovers) ∙ other))
+        key_lacks listing (∥∥₁_elim searched.searched (hlevel props) (λ facts. sym ((left (Damaged damage) is facts).key listing recovers) ∙ other))
 
-    pub number : ForRecovered both.file.now both.meta (λ listing. damage.members ≡ saturated (length listing))
-    number listing recovers = ∥∥₁_elim both.searched (hlevel props) (λ searched. (left (Damaged damage) is searched).number listing recovers)
+    pub number : ForRecovered searched.file.now searched.meta (λ listing. damage.members ≡ saturated (length listing))
+    number listing recovers = ∥∥₁_elim searched.searched (hlevel props) (λ facts. (left (Damaged damage) is facts).number listing recovers)
 
-    pub gaps_known : ForGaps both.file.now both.meta (λ gaps. map page_gap_view damage.gaps.items ≡ gaps)
-    gaps_known gaps are = ∥∥₁_elim both.searched (hlevel props) (λ searched. (left (Damaged damage) is searched).gaps gaps are)
+    pub gaps_known : ForGaps searched.file.now searched.meta (λ gaps. map page_gap_view damage.gaps.items ≡ gaps)
+    gaps_known gaps are = ∥∥₁_elim searched.searched (hlevel props) (λ facts. (left (Damaged damage) is facts).gaps gaps are)
 
-    pub damaged : HasSoundTrees both.file.now both.meta → ⊥
-    damaged sound = ∥∥₁_elim both.searched (hlevel props) (λ searched. (left (Damaged damage) is searched).unsound sound)
+    pub damaged : HasSoundTrees searched.file.now searched.meta → ⊥
+    damaged sound = ∥∥₁_elim searched.searched (hlevel props) (λ facts. (left (Damaged damage) is facts).unsound sound)
 
-  module _ (x : Finding) (is : both.trees ≡ Rootless x) where
-    pub root_lost : ∥ LosesRoot both.file.now both.meta x ∥₁
-    root_lost = ∥∥₁_map both.searched (λ searched. subst (IsAllLost both.file.now both.meta) (ap lost_of is) searched.lost)
+  module _ (x : Finding) (is : searched.trees ≡ Rootless x) where
+    pub root_lost : ∥ LosesRoot searched.file.now searched.meta x ∥₁
+    root_lost = ∥∥₁_map searched.searched (λ facts. subst (IsAllLost searched.file.now searched.meta) (ap lost_of is) facts.lost)
 
-    pub none_recovered : ForRecovered both.file.now both.meta (λ listing. listing ≡ [])
-    none_recovered listing recovers = ∥∥₁_elim root_lost (hlevel props) (λ lost. nothing_recovered both.file.now both.meta x lost listing recovers)
+    pub none_recovered : ForRecovered searched.file.now searched.meta (λ listing. listing ≡ [])
+    none_recovered listing recovers = ∥∥₁_elim root_lost (hlevel props) (λ lost. nothing_recovered searched.file.now searched.meta x lost listing recovers)
 
-    pub rootless : HasSoundTrees both.file.now both.meta → ⊥
+    pub rootless : HasSoundTrees searched.file.now searched.meta → ⊥
     rootless sound =
-        let (survey, is_survey) = has_survey both.file.now both.meta in
+        let (survey, is_survey) = has_survey searched.file.now searched.meta in
         ∥∥₁_elim root_lost (hlevel props)
-        (λ lost. loses_root both.file.now both.meta x lost survey is_survey (none_lost both.file.now both.meta survey sound is_survey))
+        (λ lost. loses_root searched.file.now searched.meta x lost survey is_survey (none_lost searched.file.now searched.meta survey sound is_survey))
 
-    pub no_gap : ForGaps both.file.now both.meta (λ gaps. [] ≡ gaps)
-    no_gap gaps are = ∥∥₁_elim root_lost (hlevel props) (λ lost. sym (nothing_kept both.file.now both.meta x lost gaps are))
+    pub no_gap : ForGaps searched.file.now searched.meta (λ gaps. [] ≡ gaps)
+    no_gap gaps are = ∥∥₁_elim root_lost (hlevel props) (λ lost. sym (nothing_kept searched.file.now searched.meta x lost gaps are))
 
-    pub lacks_all : ForRecovered both.file.now both.meta LacksBucketKey
+    pub lacks_all : ForRecovered searched.file.now searched.meta LacksBucketKey
     lacks_all listing recovers m has = absurd (contains_none m (subst (λ (ms : List Member). Contains ms m) (none_recovered listing recovers) has))

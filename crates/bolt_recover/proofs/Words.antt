@@ -27,7 +27,7 @@ pub use Rattle.bolt_check.specs.declared.finding.Finding.{Finding}
 pub use Rattle.bolt_format.specs.{ElementPlaces.leaf_view, Elements.LeafElement, Elements.head_root, Elements.head_sequence, Elements.inline_elements}
 pub use Rattle.bolt_format.specs.{declared.meta.Meta.Meta}
 unfoldable pub use Rattle.bolt_format.specs.{Pages.page_at}
-pub use Rattle.bolt_recover.specs.Found.{AreFound, AreFoundAnyway, AreSought, FoundBelow, IsFoundNext, IsFoundPage, found_numbers}
+pub use Rattle.bolt_recover.specs.Found.{AreFound, AreFoundInAnyCase, AreSought, FoundBelow, IsFoundNext, IsFoundPage, found_numbers}
 pub use Rattle.bolt_recover.specs.Joined.{HasBucketKey, IsElement, IsFoundMember, IsInnerMember, IsJoined, LacksBucketKey, LeavesRoom, found_tree}
 pub use Rattle.bolt_recover.specs.Joined.{inside_of}
 pub use Rattle.bolt_recover.specs.Joined.{is_found_path, joined_listing, lost_and_found, put_bucket, tree_of_elements}

@@ -32,15 +32,15 @@ module _ (file : List ℕ) (meta : Meta) where
     pub none : LosesNothing survey → found ≡ []
     pub some : (way : List ℕ) (x : Finding) → Has survey (lost way x) → FoundBelow (IsKeptPage file meta survey) meta.high_water found
 
--- The found pages of a file under a meta if they are looked for in any case.
-pub record AreFoundAnyway (file : List ℕ) (meta : Meta) (found : List ℕ) : Type 0 where
+-- The found pages of a file under a meta if they are looked for in any case, even if no way is lost.
+pub record AreFoundInAnyCase (file : List ℕ) (meta : Meta) (found : List ℕ) : Type 0 where
   pub survey : List SurveyedWay
   pub surveys : IsSurvey file meta survey
   pub all : FoundBelow file meta (IsKeptPage file meta survey) meta.high_water found
 
 -- The pages that a search finds: in any case, or only if a way is lost.
-abbrev pub AreSought : List ℕ → Meta → (anyway : Bool) → List ℕ → Type 0
-AreSought file meta true found = AreFoundAnyway file meta found
+abbrev pub AreSought : List ℕ → Meta → (in_any_case : Bool) → List ℕ → Type 0
+AreSought file meta true found = AreFoundInAnyCase file meta found
 AreSought file meta false found = AreFound file meta found
 
 -- page k lies in the span of page n

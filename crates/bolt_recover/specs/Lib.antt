@@ -2,7 +2,6 @@ pub mod Found
 pub mod Joined
 pub mod JoinRefusals
 pub mod JoinedMembers
-pub mod KeptMembers
 pub mod KeptPages
 pub mod Losses
 pub mod Lost
@@ -13,6 +12,7 @@ pub mod PageWays
 pub mod Sites
 pub mod Private
 pub mod Recovered
+pub mod RecoveredMembers
 pub mod Recoveries
 pub mod Refusals
 pub mod ShownFound

@@ -2,4 +2,4 @@
 use Rattle.bolt_recover.specs.{Losses.LostView, Private.TreesLeft.lost_of, declared.lost_and_found.LostAndFound.LostAndFound}
 
 unfoldable pub all_lost : LostAndFound → LostView
-all_lost both = lost_of both.trees
+all_lost searched = lost_of searched.trees

@@ -9,8 +9,8 @@ ghost use Rattle.bolt_tree.specs.Listing.{Member};
 
 use crate::found_members::FoundMembers;
 use crate::found_page::FoundPage;
+use crate::join_fault::JoinFault;
 use crate::lost_and_found::{LostAndFound, Trees};
-use crate::recover_fault::RecoverFault;
 use crate::recovered_listing::RecoveredListing;
 use bolt_check::NoMemory;
 use bolt_format::Meta;
@@ -36,7 +36,7 @@ pub struct JoinedListing<'a> {
 const NAMES: u64 = 10_000_000_000_000_000;
 
 /// Tests whether there is a joined listing of a file that was searched.
-fn test_join(searched: &LostAndFound<'_>) -> Result<(), RecoverFault>
+fn test_join(searched: &LostAndFound<'_>) -> Result<(), JoinFault>
     ensures apart { OnOk result (searched.now.found.items ≢ []
         → ForRecovered searched.now.file.now searched.now.meta LacksBucketKey) }
     ensures some { OnOk result ((x : Finding) → all_lost searched.now ≡ everything x
@@ -46,20 +46,20 @@ fn test_join(searched: &LostAndFound<'_>) -> Result<(), RecoverFault>
         (IsJoinRefusal searched.now.file.now searched.now.meta (found_numbers searched.now.found.items)) }
 {
     if searched.file.len() as u64 / u64::from(searched.meta.page_size) >= NAMES {
-        return Err(RecoverFault::TooManyPages);
+        return Err(JoinFault::TooManyPages);
     }
     let some = !searched.found.is_empty();
     match &searched.trees {
         Trees::Sound(_) => Ok(()),
         Trees::Damaged(damage) => {
             if some && damage.has_bucket_key {
-                return Err(RecoverFault::Exists);
+                return Err(JoinFault::Exists);
             }
             Ok(())
         }
         Trees::Rootless(finding) => {
             if !some {
-                return Err(RecoverFault::Rootless(*finding));
+                return Err(JoinFault::Rootless(*finding));
             }
             Ok(())
         }
@@ -82,7 +82,7 @@ impl<'a> JoinedListing<'a> {
     pub fn new(
         alloc: Global,
         searched: &'a LostAndFound<'_>,
-    ) -> Result<JoinedListing<'a>, RecoverFault>
+    ) -> Result<JoinedListing<'a>, JoinFault>
         ensures file { IfOk result (λ joined. joined_file joined ≡ searched.now.file.now) }
         ensures meta { IfOk result (λ joined. joined_meta joined ≡ searched.now.meta) }
         ensures all { IfOk result (λ joined.
@@ -98,10 +98,10 @@ impl<'a> JoinedListing<'a> {
             (IsJoinRefusal searched.now.file.now searched.now.meta (found_numbers searched.now.found.items)) }
     {
         test_join(searched)?;
-        let kept = RecoveredListing::of(alloc, searched)?;
+        let recovered = RecoveredListing::of(alloc, searched)?;
         let found = searched.found.as_slice();
         Ok(JoinedListing {
-            members: Merged::new(kept, FoundMembers::new(found)),
+            members: Merged::new(recovered, FoundMembers::new(found)),
             file: searched.file,
             meta: searched.meta,
             found,

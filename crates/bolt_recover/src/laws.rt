@@ -8,7 +8,7 @@ ghost use Rattle.bolt_check.specs.{Sound.IsFirstFinding, Ways.Spot, Ways.reached
 ghost use Rattle.bolt_check.specs.{declared.finding.Finding.Finding};
 ghost use Rattle.bolt_lemmas.specs.Order.{Rises};
 ghost use Rattle.bolt_tree.specs.{Entries.Bucket, Listing.IsListing, Listing.Member, Listing.member_cmp, Tree.Tree, Tree.listing_of};
-ghost use Rattle.bolt_recover.specs.Found.{AreFound, AreFoundAnyway, AreSought, IsFoundPage, ForFoundPages, Spans};
+ghost use Rattle.bolt_recover.specs.Found.{AreFound, AreFoundInAnyCase, AreSought, IsFoundPage, ForFoundPages, Spans};
 ghost use Rattle.bolt_recover.specs.PageGaps.{AreGaps, PageGapView};
 ghost use Rattle.bolt_recover.specs.Joined.{IsFoundMember, IsJoined, LacksBucketKey, LeavesRoom, is_found_path, lost_and_found};
 ghost use Rattle.bolt_recover.specs.{JoinedMembers.ForJoined, JoinedMembers.joined_file, JoinedMembers.joined_meta, KeptPages.IsKeptPage};
@@ -149,23 +149,23 @@ pub fn each_file_has_found_pages()
 /// A file has one list of the pages that a search finds.
 #[tactic(auto, using(crate::proofs::Sought::one_sought))]
 pub fn sought_pages_are_one()
-    ensures { (file : List ℕ) (meta : Meta) (anyway : Bool)
-        → AtMostOne (AreSought file meta anyway) }
+    ensures { (file : List ℕ) (meta : Meta) (in_any_case : Bool)
+        → AtMostOne (AreSought file meta in_any_case) }
 {}
 
 /// Each file has pages that a search finds: one list, which may be empty.
 #[tactic(auto, using(crate::proofs::Sought::has_sought))]
 pub fn each_file_has_sought_pages()
-    ensures { (file : List ℕ) (meta : Meta) (anyway : Bool)
-        → (found : List ℕ) × AreSought file meta anyway found }
+    ensures { (file : List ℕ) (meta : Meta) (in_any_case : Bool)
+        → (found : List ℕ) × AreSought file meta in_any_case found }
 {}
 
 /// If something is lost, the same pages are found as if they were looked for in any case.
-#[tactic(auto, using(crate::proofs::Sought::found_anyway_if_lost))]
+#[tactic(auto, using(crate::proofs::Sought::found_in_any_case_if_lost))]
 pub fn a_loss_is_searched_for_in_any_case()
     ensures { (file : List ℕ) (meta : Meta) (lost : LostView) (found : List ℕ)
         → IsAllLost file meta lost → is_nothing lost ≡ false → AreFound file meta found
-        → AreFoundAnyway file meta found }
+        → AreFoundInAnyCase file meta found }
 {}
 
 /// If nothing is lost, nothing is found.

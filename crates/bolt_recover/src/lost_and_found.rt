@@ -4,7 +4,7 @@ ghost use Rattle.std.specs.Option.{IfNone};
 ghost use Rattle.std.specs.Prelude.{◌≡◌, ◌<◌, IfOk, IfSome, false, length, map, true};
 ghost use Rattle.bolt_check.specs.{Counts.saturated, Sound.HasSoundTrees, declared.finding.Finding.Finding};
 ghost use Rattle.bolt_format.specs.Bytes.{IsBytes};
-ghost use Rattle.bolt_recover.specs.{Found.AreFound, Found.AreFoundAnyway, Found.found_numbers, Lost.IsAllLost, Private.TreesLeft.IsSearched};
+ghost use Rattle.bolt_recover.specs.{Found.AreFound, Found.AreFoundInAnyCase, Found.found_numbers, Lost.IsAllLost, Private.TreesLeft.IsSearched};
 ghost use Rattle.bolt_recover.specs.{Recovered.ForRecovered, ShownFound.IsFoundView};
 ghost use Rattle.bolt_recover.specs.{PageGaps.ForGaps, PageGaps.page_gap_view, Losses.is_nothing, Refusals.LosesRoot, ShownLosses.lost_view};
 
@@ -117,10 +117,10 @@ impl<'a> LostAndFound<'a> {
     /// # Errors
     ///
     /// `NoMemory` if memory runs out.
-    pub fn search_anyway(&self, alloc: Global) -> Result<Vec<FoundPage<'a>>, NoMemory>
+    pub fn found_in_any_case(&self, alloc: Global) -> Result<Vec<FoundPage<'a>>, NoMemory>
         requires { is_nothing (all_lost self.now) ≡ true }
         ensures found { IfOk result (λ found.
-            AreFoundAnyway self.now.file.now self.now.meta (found_numbers found.items)) }
+            AreFoundInAnyCase self.now.file.now self.now.meta (found_numbers found.items)) }
         ensures views { IfOk result (λ found.
             All (IsFoundView self.now.file.now self.now.meta) found.items) }
     {
@@ -128,7 +128,7 @@ impl<'a> LostAndFound<'a> {
         let Ok(recovery) = Recovery::under(alloc, self.file, self.meta) else {
             return Err(NoMemory);
         };
-        recovery.unreached()
+        recovery.found_in_any_case()
     }
 
     /// How many members are recovered, if the trees aren't sound. Saturates at 2^64 - 1.

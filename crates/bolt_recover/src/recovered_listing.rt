@@ -33,7 +33,7 @@ pub enum RecoveredListing<'a> {
 }
 
 impl<'a> RecoveredListing<'a> {
-    ghost use Rattle.bolt_recover.specs.KeptMembers.{kept_file, kept_left, kept_meta, kept_path};
+    ghost use Rattle.bolt_recover.specs.RecoveredMembers.{recovered_file, recovered_left, recovered_meta, recovered_path};
 
     /// What is recovered of a file that was searched. It needs nothing if the trees are sound or the
     /// root page is lost; otherwise a table of pages, room for the losses and for the open pages on
@@ -43,11 +43,11 @@ impl<'a> RecoveredListing<'a> {
     ///
     /// `NoMemory` if memory runs out.
     pub fn of(alloc: Global, searched: &LostAndFound<'a>) -> Result<RecoveredListing<'a>, NoMemory>
-        ensures file { IfOk result (λ kept. kept_file kept ≡ searched.now.file.now) }
-        ensures meta { IfOk result (λ kept. kept_meta kept ≡ searched.now.meta) }
-        ensures all { IfOk result (λ kept. ForRecovered searched.now.file.now searched.now.meta (λ listing.
-            kept_left kept listing ≡ listing)) }
-        ensures path { IfOk result (λ kept. kept_path kept ≡ []) }
+        ensures file { IfOk result (λ recovered. recovered_file recovered ≡ searched.now.file.now) }
+        ensures meta { IfOk result (λ recovered. recovered_meta recovered ≡ searched.now.meta) }
+        ensures all { IfOk result (λ recovered. ForRecovered searched.now.file.now searched.now.meta (λ listing.
+            recovered_left recovered listing ≡ listing)) }
+        ensures path { IfOk result (λ recovered. recovered_path recovered ≡ []) }
     {
         match &searched.trees {
             Trees::Sound(checked) => Ok(RecoveredListing::Sound(Walk::new(alloc, *checked))),
@@ -66,21 +66,21 @@ impl<'a> RecoveredListing<'a> {
 
 #[tactic(auto, unfolding(crate::specs::Recoveries::recovery_file, crate::specs::Recoveries::recovery_meta, crate::specs::Recoveries::recovery_losses))]
 impl<'a> Members<'a> for RecoveredListing<'a> {
-    ghost use Rattle.bolt_recover.specs.KeptMembers.{kept_file, kept_left, kept_meta, kept_path, kept_work};
+    ghost use Rattle.bolt_recover.specs.RecoveredMembers.{recovered_file, recovered_left, recovered_meta, recovered_path, recovered_work};
 
     ghost Whole = { List Member };
 
-    ghost reads = { λ kept listing. IsRecovered (kept_file kept) (kept_meta kept) listing };
+    ghost reads = { λ recovered listing. IsRecovered (recovered_file recovered) (recovered_meta recovered) listing };
 
     ghost listing = { λ listing. listing };
 
-    ghost left = { λ kept listing. kept_left kept listing };
+    ghost left = { λ recovered listing. recovered_left recovered listing };
 
-    ghost work_left = { λ kept. kept_work kept };
+    ghost work_left = { λ recovered. recovered_work recovered };
 
-    ghost last_path = { λ kept. kept_path kept };
+    ghost last_path = { λ recovered. recovered_path recovered };
 
-    ghost ends_as = { λ kept end. Unit {0} };
+    ghost ends_as = { λ recovered end. Unit {0} };
 
     #[inline(always)]
     fn next(&mut self) -> Result<Option<Item<'a>>, NoMemory> {

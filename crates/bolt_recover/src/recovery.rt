@@ -10,7 +10,7 @@ ghost use Rattle.bolt_tree.specs.{Listing.Member, Paths.path_of};
 ghost use Rattle.bolt_recover.specs.{KeptPages.AreKeptPages, Private.Frames.StepsAreOn, Private.Frames.AreStepsPlaced, Recovered.ForRecovered};
 ghost use Rattle.bolt_recover.specs.{Recovered.IsRecovered};
 ghost use Rattle.bolt_recover.specs.Refusals.{IsRefusedRoot, KeepsRoot};
-ghost use Rattle.bolt_recover.specs.{Found.AreFoundAnyway, Found.found_numbers, PageGaps.page_gap_view, ShownFound.IsFoundView};
+ghost use Rattle.bolt_recover.specs.{Found.AreFoundInAnyCase, Found.found_numbers, PageGaps.page_gap_view, ShownFound.IsFoundView};
 ghost use Rattle.bolt_recover.specs.{Losses.AreLosses, ShownLosses.loss_view};
 
 use crate::bucket_key::compare_first;
@@ -218,7 +218,7 @@ impl<'a> Recovery<'a> {
             IsSearched (recovery_file self.entry) (recovery_meta self.entry)
             (Trees.Damaged damage) found.items) }
     {
-        let (has_bucket_key, members) = self.look_through()?;
+        let (has_bucket_key, members) = self.run_to_end()?;
         let steps = self.steps;
         let found = find_leaves(steps.alloc, Leftovers::new(steps.claims))?;
         Ok((
@@ -238,23 +238,23 @@ impl<'a> Recovery<'a> {
     /// # Errors
     ///
     /// `NoMemory` if memory runs out.
-    pub(crate) fn unreached(mut self) -> Result<Vec<FoundPage<'a>>, NoMemory>
+    pub(crate) fn found_in_any_case(mut self) -> Result<Vec<FoundPage<'a>>, NoMemory>
         requires { ForRecovered (recovery_file self) (recovery_meta self) (λ listing.
             recovery_left self listing ≡ listing) }
         ensures found { IfOk result (λ found.
-            AreFoundAnyway (recovery_file self.entry) (recovery_meta self.entry)
+            AreFoundInAnyCase (recovery_file self.entry) (recovery_meta self.entry)
             (found_numbers found.items)) }
         ensures views { IfOk result (λ found.
             All (IsFoundView (recovery_file self.entry) (recovery_meta self.entry)) found.items) }
     {
-        self.look_through()?;
+        self.run_to_end()?;
         let steps = self.steps;
         find_leaves(steps.alloc, Leftovers::new(steps.claims))
     }
 
-    /// Drops what is left. Returns whether the root bucket has an entry with the key of the bucket of what
-    /// is found, and how many members were left.
-    fn look_through(&mut self) -> Result<(bool, u64), NoMemory>
+    /// Goes to the end, and drops the members that are left. Returns whether the root bucket has an entry
+    /// with the key of the bucket of what is found, and how many members were left.
+    fn run_to_end(&mut self) -> Result<(bool, u64), NoMemory>
         requires { ForRecovered (recovery_file self.old) (recovery_meta self.old) (λ listing.
             recovery_left self.old listing ≡ listing) }
         ensures file { recovery_file self.new ≡ recovery_file self.old }

@@ -13,14 +13,14 @@ use Rattle.bolt_repair.proofs.{ReadablePaths.readable_entry, ReadablePaths.revis
 use Rattle.bolt_recover.specs.Recovered.{IsRecovered}
 use Rattle.bolt_recover.specs.Losses.{LossView, LostView, everything, parts}
 use Rattle.bolt_etcd.proofs.Exports.{bind_some}
-use Rattle.bolt_etcd.specs.{Wire.UnreadEntries.No_record, Wire.UnreadEntries.UnreadView, Wire.UnreadEntries.Other_key, Wire.RevisionKeys.IsSpelled}
+use Rattle.bolt_etcd.specs.{Wire.UnreadEntries.No_record, Wire.UnreadEntries.UnreadView, Wire.UnreadEntries.Unread_key, Wire.RevisionKeys.IsSpelled}
 use Rattle.bolt_etcd.specs.{Wire.RevisionKeys.numbers_cmp, Wire.RevisionKeys.revision_key, Wire.RevisionKeys.spelling, Wire.Revisions.RevisionView}
 use Rattle.bolt_etcd.specs.{Wire.Revisions.revision_in, Wire.Revisions.revision_of, Wire.Revisions.value_of}
 use Rattle.bolt_etcd.specs.{declared.wire.revision_key.RevisionKey.RevisionKey}
 use Rattle.bolt_etcd.specs.Store.BucketNames.{key_bucket}
-use Rattle.bolt_repair.specs.Bounds.{HaveByteBounds, IsKeyBetween, IsBytesIf, IsLastOfName, IsReported, IsWithinBound, LosesReported, MayHide}
+use Rattle.bolt_repair.specs.Bounds.{HaveByteBounds, IsKeyBetween, IsBytesIf, IsLastOfName, MayBeTaken, IsWithinBound, LosesReported, MayHide}
 use Rattle.bolt_repair.specs.Bounds.{MayLose, MayTake, MayTakeOn, bound_below, bound_of_key, bound_of_loss, bound_of_losses, bound_of_lost}
-use Rattle.bolt_repair.specs.Bounds.{bound_of_other, bound_of_others, bound_on, greater, holds_store, is_name_before, is_name_from, repair_bound}
+use Rattle.bolt_repair.specs.Bounds.{bound_of_entry, bound_of_unread, bound_on, greater, holds_store, is_name_before, is_name_from, repair_bound}
 use Rattle.bolt_repair.specs.declared.bound.Bound.{Bound}
 use Rattle.bolt_repair.specs.declared.bound.Bound.TheVariants.{Any, Nothing, UpTo}
 
@@ -126,31 +126,31 @@ module _ (spelled : AreSpelled) (ordered : AreOrdered) where
   within_lost (everything x) key k bytes also is loses = tt
   within_lost (parts losses) key k bytes also is (loss, has, takes) = within_losses losses loss key k bytes (also loss has) is has takes
 
-  within_other : (other : UnreadView) (key : Key) (k : RevisionKey) → revision_key key ≡ Some k → MayHide other key
-      → IsWithinBound (bound_of_other other) k.main
-  within_other (Other_key other) key k is hides = tt
-  within_other (No_record l) key k is hides =
+  within_entry : (other : UnreadView) (key : Key) (k : RevisionKey) → revision_key key ≡ Some k → MayHide other key
+      → IsWithinBound (bound_of_entry other) k.main
+  within_entry (Unread_key other) key k is hides = tt
+  within_entry (No_record l) key k is hides =
       let same : k ≡ l = (let both : Some k ≡ Some l = sym is ∙ hides in cc) in subst (λ (m : RevisionKey). k.main ≤ m.main) same (omega arith)
 
-  within_others : (others : List UnreadView) (other : UnreadView) (key : Key) (k : RevisionKey) → revision_key key ≡ Some k → Contains others other
-      → MayHide other key → IsWithinBound (bound_of_others others) k.main
-  within_others [] other key k is has hides = absurd (contains_none other has)
-  within_others (x ∷ others) other key k is has hides = elim (contains_cases x other others has) [
+  within_unread : (unread_views : List UnreadView) (other : UnreadView) (key : Key) (k : RevisionKey) → revision_key key ≡ Some k → Contains unread_views other
+      → MayHide other key → IsWithinBound (bound_of_unread unread_views) k.main
+  within_unread [] other key k is has hides = absurd (contains_none other has)
+  within_unread (x ∷ unread_views) other key k is has hides = elim (contains_cases x other unread_views has) [
     | inl same ↦
-        within_left (bound_of_other x) (bound_of_others others) k.main
-        (subst (λ (o : UnreadView). IsWithinBound (bound_of_other o) k.main) (sym same) (within_other other key k is hides))
-    | inr later ↦ within_right (bound_of_other x) (bound_of_others others) k.main (within_others others other key k is later hides)
+        within_left (bound_of_entry x) (bound_of_unread unread_views) k.main
+        (subst (λ (o : UnreadView). IsWithinBound (bound_of_entry o) k.main) (sym same) (within_entry other key k is hides))
+    | inr later ↦ within_right (bound_of_entry x) (bound_of_unread unread_views) k.main (within_unread unread_views other key k is later hides)
   ]
 
-  within_bound : (lost : LostView) (others : List UnreadView) (is_older : Bool) (key : Key) (k : RevisionKey) → IsBytes key → HaveByteBounds lost
+  within_bound : (lost : LostView) (unread_views : List UnreadView) (is_older : Bool) (key : Key) (k : RevisionKey) → IsBytes key → HaveByteBounds lost
       → revision_key key ≡ Some k
-      → IsReported lost others is_older key → IsWithinBound (repair_bound lost others is_older) k.main
-  within_bound lost others true key k bytes also is reported = tt
-  within_bound lost others false key k bytes also is (inl older) = cc
-  within_bound lost others false key k bytes also is (inr (inl loses)) =
-      within_left (bound_of_lost lost) (bound_of_others others) k.main (within_lost lost key k bytes also is loses)
-  within_bound lost others false key k bytes also is (inr (inr (other, has, hides))) =
-      within_right (bound_of_lost lost) (bound_of_others others) k.main (within_others others other key k is has hides)
+      → MayBeTaken lost unread_views is_older key → IsWithinBound (repair_bound lost unread_views is_older) k.main
+  within_bound lost unread_views true key k bytes also is reported = tt
+  within_bound lost unread_views false key k bytes also is (inl older) = cc
+  within_bound lost unread_views false key k bytes also is (inr (inl loses)) =
+      within_left (bound_of_lost lost) (bound_of_unread unread_views) k.main (within_lost lost key k bytes also is loses)
+  within_bound lost unread_views false key k bytes also is (inr (inr (other, has, hides))) =
+      within_right (bound_of_lost lost) (bound_of_unread unread_views) k.main (within_unread unread_views other key k is has hides)
 
   -- what a repaired listing lacks of a whole one is taken by something that is reported
   pub lacking : (file : List ℕ) (meta : Meta) (search : Bool) (whole recovered listing : List Member) (lost : LostView) (is_older : Bool)

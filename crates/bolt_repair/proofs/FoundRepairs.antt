@@ -10,20 +10,20 @@ use Rattle.bolt_check.specs.{Keys.Key, declared.finding.Finding.Finding}
 use Rattle.bolt_tree.specs.{Entries.Bucket, Entries.EntryView, Entries.Item, Entries.Value, Listing.Member, ShownEntries.item_view}
 use Rattle.bolt_recover.proofs.Exports.{has_recovered}
 use Rattle.bolt_recover.specs.{Losses.LostView, Losses.everything, Losses.is_nothing, Losses.parts, Lost.IsAllLost, LostAndFound.all_lost}
-use Rattle.bolt_recover.specs.{Found.AreFound, Found.AreFoundAnyway, Found.AreSought, Found.found_numbers, Recovered.ForRecovered}
-use Rattle.bolt_recover.specs.{Recovered.IsRecovered, Refusals.LosesRoot, ShownFound.IsFoundView}
+use Rattle.bolt_recover.specs.{Found.AreFound, Found.AreFoundInAnyCase, Found.AreSought, Found.found_numbers, Recovered.ForRecovered}
+use Rattle.bolt_recover.specs.{Refusals.LosesRoot, ShownFound.IsFoundView}
 use Rattle.bolt_recover.specs.{Sites.leaves_of, declared.found_page.FoundPage.FoundPage, declared.lost_and_found.LostAndFound.LostAndFound}
 use Rattle.bolt_etcd.specs.{declared.wire.revision.Revision.Revision, Wire.ShownRevisions.entry_of, Wire.ShownRevisions.shown_revision}
 use Rattle.bolt_etcd.specs.{Store.Compacted.compacted_by}
 use Rattle.bolt_repair.specs.Candidates.{without}
 use Rattle.bolt_repair.specs.{Candidates.AreCandidates, Candidates.AreSearched, Candidates.found_elements, Candidates.whole_cmp}
-use Rattle.bolt_repair.specs.{FullRepairs.IsFullRepair, Readable.readable, Repaired.IsRepair, Repaired.MakesMeta, Repaired.elements_on}
+use Rattle.bolt_repair.specs.{FullRepairs.IsFullRepair, Repaired.IsRepair, Repaired.MakesMeta, Repaired.elements_on}
 use Rattle.bolt_repair.specs.{Repaired.lacks_bucket, Repairs.HasMeta}
 use Rattle.bolt_repair.specs.RepairRefusals.{IsRepairRefusal, LacksStore, PutsNoneBack, no_bucket_fault}
-use Rattle.bolt_repair.specs.{RecoveredStores.IsRecoveredStore, RecoveredStores.IsStoreNoted, Undisputed.AreKeys, Undisputed.AreUndisputed}
+use Rattle.bolt_repair.specs.{RecoveredStores.IsStoreNoted, Undisputed.AreKeys, Undisputed.AreUndisputed}
 use Rattle.bolt_repair.specs.{WhatGoesBack.ArePutBack}
 use Rattle.bolt_repair.specs.declared.recovered_store.RecoveredStore.{RecoveredStore}
-use Rattle.bolt_repair.proofs.WholeRepairs.{back_least, full_repair, is_nil, repair}
+use Rattle.bolt_repair.proofs.WholeRepairs.{IsFound, back_least, full_repair, is_nil, repair}
 
 -- the elements of the pages of the code are those of the pages with their numbers
 elements_found : (file : List ℕ) (meta : Meta) (found : List FoundPage) → All (IsFoundView file meta) found
@@ -33,9 +33,9 @@ elements_found file meta (f ∷ found) views =
     let here : leaves_of (page_at file meta f.number) ≡ leaves_on f.page = ap leaves_of (All-head (IsFoundView file meta) f found views).page in
     ap₂ (λ (a b : List LeafElement). a ++ b) here (elements_found file meta found (All-tail (IsFoundView file meta) f found views))
 
-loses_root : (both : LostAndFound) (x : Finding) → all_lost both ≡ everything x → ∥ LosesRoot both.file.now both.meta x ∥₁
+loses_root : (searched : LostAndFound) (x : Finding) → all_lost searched ≡ everything x → ∥ LosesRoot searched.file.now searched.meta x ∥₁
 unfolding all_lost
-loses_root both x is = ∥∥₁_map both.searched (λ searched. subst (IsAllLost both.file.now both.meta) is searched.lost)
+loses_root searched x is = ∥∥₁_map searched.searched (λ facts. subst (IsAllLost searched.file.now searched.meta) is facts.lost)
 
 -- Whether nothing goes back and the bucket is lacking. If not, it is made exactly if it is lacking.
 abbrev pub HasNothing : (nothing lacks : Bool) → List Revision → Type 0
@@ -65,15 +65,15 @@ none_under None is item at = cc
 none_under (Some (Bucket sequence)) is item at = cc
 none_under (Some (Value value)) is item at = cc
 
-pub refused : (both : LostAndFound) (search : Bool) → PutsNoneBack both.file.now both.meta search → ForRecovered both.file.now both.meta LacksStore
-    → (v : LostView) → all_lost both ≡ v
-    → IsRepairRefusal both.file.now both.meta search (no_bucket_fault v)
+pub refused : (searched : LostAndFound) (search : Bool) → PutsNoneBack searched.file.now searched.meta search → ForRecovered searched.file.now searched.meta LacksStore
+    → (v : LostView) → all_lost searched ≡ v
+    → IsRepairRefusal searched.file.now searched.meta search (no_bucket_fault v)
 unfolding all_lost
-refused both search none lacks (everything x) is = (loses_root both x is, none)
-refused both search none lacks (parts losses) is =
-    (∥∥₁_map both.searched (λ searched. (subst (IsAllLost both.file.now both.meta) is searched.lost).0), lacks, none)
+refused searched search none lacks (everything x) is = (loses_root searched x is, none)
+refused searched search none lacks (parts losses) is =
+    (∥∥₁_map searched.searched (λ facts. (subst (IsAllLost searched.file.now searched.meta) is facts.lost).0), lacks, none)
 
-abbrev now : Bor Key → Key
+abbrev pub now : Bor Key → Key
 now key = key.now
 
 -- the bucket `meta` is made if nothing was noted under its name
@@ -84,12 +84,12 @@ meta_if recovered false says = λ there. let wrong : false ≡ true = says.1 the
 -- ---- the candidates
 
 -- on pages that were looked for though nothing is lost
-pub searched_anyway : (both : LostAndFound) (search : Bool) (found : List FoundPage) (es : List EntryView) → search ≡ true
-    → AreFoundAnyway both.file.now both.meta (found_numbers found)
-    → All (IsFoundView both.file.now both.meta) found → AreCandidates (found_elements found) es → AreSearched both search es
-searched_anyway both search found es is are views candidates =
-    let file = both.file.now in
-    let meta = both.meta in
+pub searched_in_any_case : (searched : LostAndFound) (search : Bool) (found : List FoundPage) (es : List EntryView) → search ≡ true
+    → AreFoundInAnyCase searched.file.now searched.meta (found_numbers found)
+    → All (IsFoundView searched.file.now searched.meta) found → AreCandidates (found_elements found) es → AreSearched searched search es
+searched_in_any_case searched search found es is are views candidates =
+    let file = searched.file.now in
+    let meta = searched.meta in
     ∣ (
       found_numbers found,
       subst (λ (b : Bool). AreSought file meta b (found_numbers found)) (sym is) are,
@@ -97,27 +97,27 @@ searched_anyway both search found es is are views candidates =
     ) ∣₁
 
 -- If something is lost, the pages were found as if they were looked for in any case.
-abbrev FindsAnyway : Type 0
-FindsAnyway =
+abbrev FindsInAnyCase : Type 0
+FindsInAnyCase =
     (file : List ℕ) (meta : Meta) (lost : LostView) (found : List ℕ) → IsAllLost file meta lost → is_nothing lost ≡ false → AreFound file meta found
-    → AreFoundAnyway file meta found
+    → AreFoundInAnyCase file meta found
 
-lost_sought : FindsAnyway → (both : LostAndFound) (search : Bool) → IsAllLost both.file.now both.meta (all_lost both)
-    → AreFound both.file.now both.meta (found_numbers both.found.items)
-    → (search ≡ true → is_nothing (all_lost both) ≡ false) → AreSought both.file.now both.meta search (found_numbers both.found.items)
-lost_sought anyway both true loses are some = anyway both.file.now both.meta (all_lost both) (found_numbers both.found.items) loses (some refl) are
-lost_sought anyway both false loses are some = are
+lost_sought : FindsInAnyCase → (searched : LostAndFound) (search : Bool) → IsAllLost searched.file.now searched.meta (all_lost searched)
+    → AreFound searched.file.now searched.meta (found_numbers searched.found.items)
+    → (search ≡ true → is_nothing (all_lost searched) ≡ false) → AreSought searched.file.now searched.meta search (found_numbers searched.found.items)
+lost_sought in_any_case searched true loses are some = in_any_case searched.file.now searched.meta (all_lost searched) (found_numbers searched.found.items) loses (some refl) are
+lost_sought in_any_case searched false loses are some = are
 
 -- on pages that were found since something is lost
-pub searched_lost : FindsAnyway → (both : LostAndFound) (search : Bool) (found : List FoundPage) (es : List EntryView) → found ≡ both.found.items
-    → (search ≡ true → is_nothing (all_lost both) ≡ false)
-    → AreCandidates (found_elements found) es → AreSearched both search es
+pub searched_lost : FindsInAnyCase → (searched : LostAndFound) (search : Bool) (found : List FoundPage) (es : List EntryView) → found ≡ searched.found.items
+    → (search ≡ true → is_nothing (all_lost searched) ≡ false)
+    → AreCandidates (found_elements found) es → AreSearched searched search es
 unfolding all_lost
-searched_lost anyway both search found es at some candidates = ∥∥₁_map both.searched (λ searched. (
-  found_numbers both.found.items,
-  lost_sought anyway both search searched.lost searched.are_found some,
+searched_lost in_any_case searched search found es at some candidates = ∥∥₁_map searched.searched (λ facts. (
+  found_numbers searched.found.items,
+  lost_sought in_any_case searched search facts.lost facts.are_found some,
   subst (λ (elements : List LeafElement). AreCandidates elements es)
-      (ap found_elements at ∙ sym (elements_found both.file.now both.meta both.found.items searched.views)) candidates,
+      (ap found_elements at ∙ sym (elements_found searched.file.now searched.meta searched.found.items facts.views)) candidates,
 ))
 
 rises_prop : (es : List EntryView) → IsProp (Rises whole_cmp es)
@@ -125,50 +125,50 @@ rises_prop [] = hlevel props
 rises_prop (e ∷ es) = hlevel (rises_prop es, props)
 
 -- candidates stand by key and value
-pub searched_rise : (both : LostAndFound) (search : Bool) (es : List EntryView) → AreSearched both search es → Rises whole_cmp es
-searched_rise both search es are = ∥∥₁_elim are (rises_prop es) (λ (found, sought, on_pages). on_pages.rises)
+pub searched_rise : (searched : LostAndFound) (search : Bool) (es : List EntryView) → AreSearched searched search es → Rises whole_cmp es
+searched_rise searched search es are = ∥∥₁_elim are (rises_prop es) (λ (found, sought, on_pages). on_pages.rises)
 
-module _ (both : LostAndFound) (search : Bool) (all listed left back : List Revision) (same : listed ≡ all) (store : RecoveredStore)
-    (compacted : ℕ) (at : compacted ≡ compacted_by (option_map now store.compaction)) (candidates : AreSearched both search (map entry_of all))
-    (stores : ForRecovered both.file.now both.meta (λ recovered. IsStoreNoted recovered (map entry_of listed) store))
-    (agree : AreUndisputed (without (map now store.met.items) (map entry_of all)) (map entry_of left))
-    (put : ArePutBack compacted (map shown_revision store.kept.items) (map entry_of left) (map entry_of back)) where
-  abbrev recovered : List Member
-  recovered = (has_recovered both.file.now both.meta).0
+-- What the calls of `Repair::find` leave: the candidates, what is recovered of the store, the candidates that are agreed, and those that go back.
+pub record FindsBack (searched : LostAndFound) (search : Bool) (all left back : List Revision) (store : RecoveredStore) : Type 0 where
+  pub candidates : AreSearched searched search (map entry_of all)
+  pub stores : ForRecovered searched.file.now searched.meta (λ recovered. IsStoreNoted recovered (map entry_of all) store)
+  pub agree : AreUndisputed (without (map now store.met.items) (map entry_of all)) (map entry_of left)
+  pub put : ArePutBack (compacted_by (option_map now store.compaction)) (map shown_revision store.kept.items) (map entry_of left) (map entry_of back)
 
-  is_recovered : IsRecovered both.file.now both.meta recovered
-  is_recovered = (has_recovered both.file.now both.meta).1
+module _ {searched : LostAndFound} {search : Bool} {all left back : List Revision} {store : RecoveredStore} (finds : FindsBack searched search all left back store)
+  where
+    is_found : ∥ IsFound searched.file.now searched.meta search (map entry_of all) (map entry_of left) (map entry_of back) (map now store.met.items)
+        (option_map item_view store.bucket) (not store.has_meta) ∥₁
+    is_found = ∥∥₁_map finds.candidates (λ (found, sought, on_pages).
+        let (recovered, recovers) = has_recovered searched.file.now searched.meta in
+        let stores = finds.stores recovered recovers in
+        record {
+          found = found;
+          sought = sought;
+          candidates = on_pages;
+          recovered = recovered;
+          recovers = recovers;
+          noted = option_map now store.compaction;
+          revisions = map shown_revision store.kept.items;
+          store = stores.store;
+          agree = finds.agree;
+          put = finds.put;
+          makes_meta = meta_if recovered store.has_meta stores.meta;
+        })
 
-  stored : IsRecoveredStore (readable recovered) (map entry_of all) (option_map item_view store.bucket) (option_map now store.compaction)
-      (map shown_revision store.kept.items) (map now store.met.items)
-  stored = (subst (λ (es : List Revision). IsStoreNoted recovered (map entry_of es) store) same (stores recovered is_recovered)).store
+    pub searched_least : (keys : List Key) → AreKeys (without (map now store.met.items) (map entry_of all)) keys → length back ≤ length keys
+    searched_least keys are = ∥∥₁_elim is_found (hlevel props) (λ is.
+        let long = length-map back entry_of in
+        let few = back_least is keys are in
+        omega (arith, long, few))
 
-  makes_it : MakesMeta recovered (not store.has_meta)
-  makes_it = meta_if recovered store.has_meta (stores recovered is_recovered).meta
+    module _ (lacks : Bool) (is_lacking : lacks_bucket (option_map item_view store.bucket) ≡ Some lacks) (is_made : Bool)
+        (made : is_made ≡ (lacks && not (is_nil (map entry_of back)))) where
+      pub searched_repair : ∥ IsRepair searched.file.now searched.meta search (map entry_of back) (record { store = is_made; meta = not store.has_meta }) ∥₁
+      searched_repair = ∥∥₁_map is_found (λ is. repair is lacks is_lacking is_made made)
 
-  put_back : ArePutBack (compacted_by (option_map now store.compaction)) (map shown_revision store.kept.items) (map entry_of left) (map entry_of back)
-  put_back = subst (λ (n : ℕ). ArePutBack n (map shown_revision store.kept.items) (map entry_of left) (map entry_of back)) at put
-
-  pub searched_least : (keys : List Key) → AreKeys (without (map now store.met.items) (map entry_of all)) keys → length back ≤ length keys
-  searched_least keys are = ∥∥₁_elim candidates (hlevel props) (λ (found, sought, on_pages).
-      let long = length-map back entry_of in
-      let few =
-      back_least both.file.now both.meta search found sought (map entry_of all) (map entry_of left) (map entry_of back) (map now store.met.items) _ _ _
-      on_pages agree recovered is_recovered stored put_back (not store.has_meta) makes_it keys are in
-      omega (arith, long, few))
-
-  module _ (lacks : Bool) (is_lacking : lacks_bucket (option_map item_view store.bucket) ≡ Some lacks) (is_made : Bool)
-      (made : is_made ≡ (lacks && not (is_nil (map entry_of back)))) where
-    pub searched_repair : ∥ IsRepair both.file.now both.meta search (map entry_of back) (record { store = is_made; meta = not store.has_meta }) ∥₁
-    searched_repair = ∥∥₁_map candidates (λ (found, sought, on_pages).
-        repair both.file.now both.meta search found sought (map entry_of all) (map entry_of left) (map entry_of back) (map now store.met.items) _ _ _
-        on_pages agree recovered is_recovered stored put_back
-        (not store.has_meta) makes_it lacks is_lacking is_made made)
-
-    pub searched_full : (keys : List Key) → AreKeys (without (map now store.met.items) (map entry_of all)) keys → (left_out : ℕ)
-        → left_out ≡ length keys - length back
-        → ∥ IsFullRepair both.file.now both.meta search (map entry_of back) (record { store = is_made; meta = not store.has_meta }) left_out ∥₁
-    searched_full keys are left_out number = ∥∥₁_map candidates (λ (found, sought, on_pages).
-        full_repair both.file.now both.meta search found sought (map entry_of all) (map entry_of left) (map entry_of back) (map now store.met.items) _ _ _
-        on_pages agree recovered is_recovered stored put_back
-        (not store.has_meta) makes_it lacks is_lacking is_made made keys are left_out (let long = length-map back entry_of in omega (arith, long, number)))
+      pub searched_full : (keys : List Key) → AreKeys (without (map now store.met.items) (map entry_of all)) keys → (left_out : ℕ)
+          → left_out ≡ length keys - length back
+          → ∥ IsFullRepair searched.file.now searched.meta search (map entry_of back) (record { store = is_made; meta = not store.has_meta }) left_out ∥₁
+      searched_full keys are left_out number = ∥∥₁_map is_found (λ is.
+          full_repair is lacks is_lacking is_made made keys are left_out (let long = length-map back entry_of in omega (arith, long, number)))

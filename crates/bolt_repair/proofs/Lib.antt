@@ -13,7 +13,7 @@ pub mod ReadingLemmas
 pub mod RepairExists
 pub mod RepairLaws
 pub mod RepairedListings
-pub mod RestoredStores
+pub mod RepairedStores
 pub mod StrippedLemmas
 pub mod WholeOrder
 pub mod WholeRepairs

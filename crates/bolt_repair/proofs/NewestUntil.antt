@@ -7,11 +7,11 @@ use Rattle.bolt_lemmas.proofs.Exports.{filter_all, filter_mapped, shows_from}
 use Rattle.bolt_check.specs.Keys.{Key}
 use Rattle.bolt_etcd.specs.{Store.Current.AreCurrentBySum, Store.Current.HaveOwnKeys, Store.Current.IsCurrentAmong, Store.Newest.is_until}
 use Rattle.bolt_repair.specs.Candidates.{among}
-use Rattle.bolt_etcd.specs.{Store.Newest.until, Wire.Revisions.RevisionView, Wire.Revisions.revision_of}
+use Rattle.bolt_etcd.specs.{Store.HashKv.passes, Store.Newest.until, Wire.Revisions.RevisionView, Wire.Revisions.revision_of}
 use Rattle.bolt_etcd.specs.{Wire.ShownRevisions.entry_of, Wire.ShownRevisions.shown_revision, declared.wire.revision.Revision.Revision}
 use Rattle.bolt_tree.specs.Entries.{EntryView}
 use Rattle.bolt_etcd.proofs.Exports.{has_stored_key, is_revision}
-use Rattle.bolt_repair.specs.WhatGoesBack.{AreTheNewest, goes_back, is_old, old_revisions}
+use Rattle.bolt_repair.specs.WhatGoesBack.{AreTheNewest, goes_back, old_revisions}
 use Rattle.bolt_repair.proofs.KeysAmong.{among_is}
 
 abbrev pub key_of : Revision → Key
@@ -29,8 +29,8 @@ stored_keys (r ∷ rs) = ap₂ (λ (k : Key) (ks : List Key). k ∷ ks) (has_sto
 -- ---- whether one goes back
 
 module _ (compacted : ℕ) (newest : List Revision) (r : Revision) (old : Bool) (is : old ≡ is_until compacted (shown_revision r)) where
-  old_is : old ≡ is_old compacted (revision_of (entry_of r))
-  old_is = is ∙ sym (ap (is_old compacted) (is_revision r))
+  old_is : old ≡ passes (is_until compacted) (revision_of (entry_of r))
+  old_is = is ∙ sym (ap (passes (is_until compacted)) (is_revision r))
 
   pub goes_new : old ≡ false → true ≡ goes_back compacted (map shown_revision newest) (entry_of r)
   goes_new new = ap (λ (b : Bool). not b || among (map (λ (s : RevisionView). s.stored_key) (map shown_revision newest)) (key_of r)) (sym new ∙ old_is)
@@ -48,7 +48,8 @@ pub all_go_back : (compacted : ℕ) (newest : List RevisionView) (agreed : List 
     → map entry_of agreed ≡ filter (goes_back compacted newest) (map entry_of agreed)
 all_go_back compacted newest agreed none = sym (filter_all (goes_back compacted newest) (map entry_of agreed) (λ e has.
     let (r, there, is) = shows_from entry_of agreed e has in
-    let new = ap (is_old compacted) (is_revision r) ∙ All-contains (λ (s : Revision). is_until compacted (shown_revision s) ≡ false) agreed r none there in
+    let new =
+    ap (passes (is_until compacted)) (is_revision r) ∙ All-contains (λ (s : Revision). is_until compacted (shown_revision s) ≡ false) agreed r none there in
     subst (λ (x : EntryView). goes_back compacted newest x ≡ true) is
     (ap (λ (b : Bool). not b || among (map (λ (s : RevisionView). s.stored_key) newest) (key_of r)) new)))
 

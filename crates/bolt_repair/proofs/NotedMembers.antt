@@ -1,7 +1,8 @@
 -- What one member more says of a store.
-use Rattle.std.proofs.Common.{rules, ◌≡◌, ◌↔◌, ◌∙◌, inl, inr, ℕ, List, [], ◌∷◌, ◌++◌, Option, Some, None, refl, sym, ap, subst, length, arith}
+use Rattle.std.proofs.Common.{rules, ◌≡◌, ◌≤◌, ◌↔◌, ◌∙◌, inl, inr, ℕ, List, [], ◌∷◌, ◌++◌, Option, Some, None, refl, sym, ap, subst, length, arith}
 use Rattle.std.proofs.lemmas.List.{append-nil, append_assoc}
 use Rattle.std.proofs.lemmas.List.Elements.{Contains-append_cases, Contains-append_left, Contains-append_right, Contains-push, Contains-push_cases}
+use Rattle.std.proofs.lemmas.List.Sums.{count_by-le-length, length-filter}
 use Rattle.std.proofs.lemmas.Option.{same_Some}
 use Rattle.std.specs.{List.Contains, Option.option_to_list}
 use Rattle.std.specs.declared.cmp.Ordering.TheVariants.{Less}
@@ -13,7 +14,8 @@ use Rattle.bolt_tree.specs.{Entries.Bucket, Entries.EntryView, Entries.Item, Ent
 use Rattle.bolt_tree.specs.{Paths.Path, Paths.path_cmp}
 use Rattle.bolt_etcd.specs.Wire.Revisions.{RevisionView, revision_of}
 use Rattle.bolt_repair.specs.{Candidates.HasKey, Repairs.IsKeptRevision, Repairs.compaction_path, Repairs.store_path}
-use Rattle.bolt_repair.specs.RecoveredStores.{ComesAfter, HasKeptKey, IsRecoveredStore, KeepsRevision}
+use Rattle.bolt_repair.specs.RecoveredStores.{ComesAfter, HasKeptKey, IsRecoveredStore, KeepsRevision, store_entries}
+use Rattle.bolt_repair.specs.StorePaths.{is_in_store}
 
 only : {A : Type 0} (o : Option A) (x : A) → Contains (option_to_list o) x → o ≡ Some x
 only None x has = absurd (contains_none x has)
@@ -235,3 +237,11 @@ next_member listing before left new path given item rises all first same =
 
 pub no_more : (listing before left : List Member) → before ++ left ≡ listing → left ≡ [] → before ≡ listing
 no_more listing before left all none = sym (append-nil before) ∙ ap (λ (ms : List Member). before ++ ms) (sym none) ∙ all
+
+-- ---- how many entries the bucket has
+
+pub entries_are_members : (members : List Member) → length (store_entries members) ≤ length members
+entries_are_members members =
+    let number = length-filter (λ (m : Member). is_in_store m.0) members in
+    let most = count_by-le-length (λ (m : Member). is_in_store m.0) members in
+    omega (arith, number, most)

@@ -10,7 +10,7 @@ use Rattle.bolt_tree.specs.Paths.{Path}
 use Rattle.bolt_tree.proofs.Exports.{key_total, path_total}
 use Rattle.bolt_recover.proofs.Exports.{one_recovered}
 use Rattle.bolt_check.specs.Ones.{AtMostOne}
-use Rattle.bolt_recover.specs.{Found.AreFound, Found.AreFoundAnyway, Found.AreSought, Recovered.IsRecovered}
+use Rattle.bolt_recover.specs.{Found.AreFound, Found.AreFoundInAnyCase, Found.AreSought, Recovered.IsRecovered}
 use Rattle.bolt_etcd.specs.{Store.Compacted.compacted_by, Wire.Revisions.value_of}
 use Rattle.bolt_repair.specs.Readable.{is_readable, readable}
 use Rattle.bolt_repair.specs.Repaired.{IsRepair, IsRepaired, Made, MakesMeta, MakesStore, elements_on, repaired_listing}
@@ -105,7 +105,8 @@ merged_repaired file meta search found_one recovered recovers back made repair l
 
 -- ---- what is searched for in any case
 
-module _ (file : List ℕ) (meta : Meta) (anyway : (found : List ℕ) → AreFound file meta found → AreFoundAnyway file meta found) (listing : List Member) where
+module _ (file : List ℕ) (meta : Meta) (in_any_case : (found : List ℕ) → AreFound file meta found → AreFoundInAnyCase file meta found)
+    (listing : List Member) where
   sought_as : (search other : Bool) → ((found : List ℕ) → AreSought file meta search found → AreSought file meta other found)
       → IsRepaired file meta search listing
       → IsRepaired file meta other listing
@@ -129,11 +130,11 @@ module _ (file : List ℕ) (meta : Meta) (anyway : (found : List ℕ) → AreFou
       }
 
   pub search_is : IsRepaired file meta false listing → IsRepaired file meta true listing
-  search_is is = sought_as false true anyway is
+  search_is is = sought_as false true in_any_case is
 
   pub search_was : ((search : Bool) → AtMostOne (AreSought file meta search))
       → ((search : Bool) → (found : List ℕ) × AreSought file meta search found) → IsRepaired file meta true listing
       → IsRepaired file meta false listing
   search_was one some is = sought_as true false (λ found sought.
       let (other, are) = some false in
-      subst (AreSought file meta false) (one true other found (anyway other are) sought) are) is
+      subst (AreSought file meta false) (one true other found (in_any_case other are) sought) are) is

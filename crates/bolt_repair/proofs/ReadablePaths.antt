@@ -10,7 +10,7 @@ use Rattle.bolt_check.specs.Keys.{Key, key_cmp}
 use Rattle.bolt_tree.proofs.Exports.{before_longer, key_exact, key_total}
 use Rattle.bolt_tree.specs.{Entries.Bucket, Entries.EntryView, Entries.Item, Listing.Member, Merges.HasBucket, Merges.HaveParents, Paths.Path}
 use Rattle.bolt_tree.specs.{Paths.path_cmp}
-use Rattle.bolt_etcd.specs.{Wire.UnreadEntries.UnreadView, Wire.UnreadEntries.other_of, Wire.Revisions.RevisionView, Wire.Revisions.revision_of}
+use Rattle.bolt_etcd.specs.{Wire.UnreadEntries.UnreadView, Wire.UnreadEntries.unread_entry_of, Wire.Revisions.RevisionView, Wire.Revisions.revision_of}
 use Rattle.bolt_etcd.specs.Store.BucketNames.{key_bucket, meta_bucket}
 use Rattle.bolt_repair.specs.{Readable.is_in_inner_bucket, Readable.is_readable, Readable.unread_at, Readable.unread_in, Repairs.compaction_path}
 use Rattle.bolt_repair.specs.{Repairs.meta_path, Repairs.store_path, StorePaths.is_near}
@@ -22,7 +22,7 @@ named bucket is = same_text bucket key_bucket (sym is)
 
 in_bucket : (bucket : Key) (e : EntryView) (b : Bool) → bytes_eq bucket key_bucket ≡ b → (b ≡ true → ⊥) → unread_in bucket e ≡ None
 in_bucket bucket e true is never = absurd (never refl)
-in_bucket bucket e false is never = ap (λ (b : Bool). cond b (other_of e) None) is
+in_bucket bucket e false is never = ap (λ (b : Bool). cond b (unread_entry_of e) None) is
 
 pub not_unread : (path : Path) (item : Item) → ((key : Key) → path ≡ store_path ++ key ∷ [] → ⊥) → unread_at path item ≡ None
 not_unread [] item never = refl
@@ -155,8 +155,8 @@ unreadable_above above k item inner is =
 
 -- ---- a revision is read
 
-pub revision_read : (e : EntryView) (r : RevisionView) → revision_of e ≡ Some r → other_of e ≡ None
-unfolding revision_of other_of
+pub revision_read : (e : EntryView) (r : RevisionView) → revision_of e ≡ Some r → unread_entry_of e ≡ None
+unfolding revision_of unread_entry_of
 revision_read e r is = grind arith
 
 -- ---- the paths of a store
@@ -170,11 +170,11 @@ readable_meta path item at = (ap (λ (p : Path). is_readable p item) at, ap (λ 
 pub readable_compaction : (path : Path) (item : Item) → path ≡ compaction_path → (is_readable path item ≡ true) × (unread_at path item ≡ None)
 readable_compaction path item at = (ap (λ (p : Path). is_readable p item) at, ap (λ (p : Path). unread_at p item) at)
 
-pub readable_entry : (e : EntryView) → other_of e ≡ None
+pub readable_entry : (e : EntryView) → unread_entry_of e ≡ None
     → (is_readable (store_path ++ e.key ∷ []) e.item ≡ true) × (unread_at (store_path ++ e.key ∷ []) e.item ≡ None)
 readable_entry e none = (ap (λ (o : Option UnreadView). is_none o && true) none, none)
 
-pub unread_entry : (e : EntryView) (o : UnreadView) → other_of e ≡ Some o
+pub unread_entry : (e : EntryView) (o : UnreadView) → unread_entry_of e ≡ Some o
     → (is_readable (store_path ++ e.key ∷ []) e.item ≡ false) × (unread_at (store_path ++ e.key ∷ []) e.item ≡ Some o)
 unread_entry e o is = (ap (λ (p : Option UnreadView). is_none p && true) is, is)
 

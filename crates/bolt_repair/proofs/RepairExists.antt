@@ -24,7 +24,7 @@ use Rattle.bolt_repair.proofs.{KeysAmong.without_has, OneRepair.readable_rises, 
 use Rattle.bolt_repair.proofs.NotedMembers.{bucket_there, compaction_noted, key_not_wanted, key_noted, next_member, no_members_noted, nothing_there}
 use Rattle.bolt_repair.proofs.NotedMembers.{store_noted}
 use Rattle.bolt_repair.proofs.{WholeOrder.merged_are_candidates, WholeOrder.same_whole, WholeOrder.whole_total, WholeRepairs.full_repair}
-use Rattle.bolt_repair.proofs.{WholeRepairs.is_nil}
+use Rattle.bolt_repair.proofs.{WholeRepairs.IsFound, WholeRepairs.is_nil}
 
 -- ---- candidates, and keys
 
@@ -192,12 +192,25 @@ module _ (file : List ℕ) (meta : Meta) (search : Bool) (found : List ℕ) (are
       let (lacks, is_lacking) =
       lacks_or_has under (λ value e.
       lacks_value value (kept_from (λ (m : Member). is_readable m.0 m.1) recovered (store_path, Value value) ((store.bucket (Value value)).1 e)).0) in
-      let (meta_is_made, makes) = meta_made recovered in (
+      let (meta_is_made, makes) = meta_made recovered in
+      let is : IsFound file meta search all agreed back met under meta_is_made =
+      record {
+        found = found;
+        sought = are_found;
+        candidates = candidates;
+        recovered = recovered;
+        recovers = recovers;
+        noted = noted;
+        revisions = revisions;
+        store = store;
+        agree = agree;
+        put = put;
+        makes_meta = makes;
+      } in (
         back,
         record { store = lacks && not (is_nil back); meta = meta_is_made },
         length keys - length back,
-        full_repair file meta search found are_found all agreed back met under noted revisions candidates agree recovered recovers store put meta_is_made
-            makes lacks is_lacking _ refl keys are_keys _ refl,
+        full_repair is lacks is_lacking _ refl keys are_keys _ refl,
       )
 
   pub has_repaired : (listing : List Member) × IsRepaired file meta search listing

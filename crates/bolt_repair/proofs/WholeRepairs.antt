@@ -16,14 +16,14 @@ use Rattle.bolt_tree.specs.{Entries.Bucket, Entries.EntryView, Entries.Item, Ent
 use Rattle.bolt_tree.specs.Listing.{member_cmp}
 use Rattle.bolt_etcd.specs.{Store.Compacted.compacted_by, Store.Current.HaveOwnKeys, Store.Current.IsCurrentAmong}
 use Rattle.bolt_repair.specs.Candidates.{among, without}
-use Rattle.bolt_etcd.specs.{Store.Newest.is_until, Wire.Revisions.RevisionView, Wire.Revisions.revision_of}
+use Rattle.bolt_etcd.specs.{Store.HashKv.passes, Store.Newest.is_until, Wire.Revisions.RevisionView, Wire.Revisions.revision_of}
 use Rattle.bolt_repair.specs.{Candidates.AreCandidates, Candidates.is_candidate, Candidates.is_in_place, FullRepairs.AreCandidateKeys}
 use Rattle.bolt_repair.specs.{FullRepairs.IsFullRepair}
 use Rattle.bolt_repair.specs.Readable.{is_readable, readable}
 use Rattle.bolt_repair.specs.Repaired.{IsRepair, MakesMeta, MakesStore, elements_on, lacks_bucket}
 use Rattle.bolt_repair.specs.Repairs.{AreBack, GoesBack, IsAgreed, IsCandidate, IsCompactedAt, IsKeptRevision, IsNewestUpTo, store_path}
 use Rattle.bolt_repair.specs.{RecoveredStores.IsRecoveredStore, Undisputed.AreKeys, Undisputed.AreUndisputed}
-use Rattle.bolt_repair.specs.WhatGoesBack.{ArePutBack, goes_back, is_old, old_revisions}
+use Rattle.bolt_repair.specs.WhatGoesBack.{ArePutBack, goes_back, old_revisions}
 use Rattle.bolt_etcd.proofs.Exports.{stored_key_is, until_early}
 use Rattle.bolt_repair.proofs.{KeysAmong.among_has, KeysAmong.among_true, KeysAmong.without_has, OneRepair.member_once, OneRepair.readable_rises}
 use Rattle.bolt_repair.proofs.{WholeOrder.in_place, WholeOrder.same_view}
@@ -198,10 +198,11 @@ module _ (recovered : List Member) (found : List LeafElement) (all : List EntryV
             let read = is.candidate.is_revision in (
               r,
               is,
-              elim (or_cases (not (is_old compacted (revision_of e))) (among stored_keys e.key) goes) [
+              elim (or_cases (not (passes (is_until compacted) (revision_of e))) (among stored_keys e.key) goes) [
                 | inl new ↦
                     inl (ltb-true compacted r.key.main
-                    (not-false (nat_lt compacted r.key.main) (sym (ap (is_old compacted) read) ∙ not-true (is_old compacted (revision_of e)) new)))
+                    (not-false (nat_lt compacted r.key.main)
+                    (sym (ap (passes (is_until compacted)) read) ∙ not-true (passes (is_until compacted) (revision_of e)) new)))
                 | inr one ↦
                     let (s, there, at) = shows_from (λ (x : RevisionView). x.stored_key) put.newest e.key (among_has stored_keys e.key one) in
                     let n = (put.are (own_keys e has) s).0 there in
@@ -217,9 +218,10 @@ module _ (recovered : List Member) (found : List LeafElement) (all : List EntryV
               has,
               elim why [
                 | inl above ↦
-                    or_left (not (is_old compacted (revision_of e))) (among stored_keys e.key)
-                    (ap (λ (o : Option RevisionView). not (is_old compacted o)) read ∙ ap (λ (b : Bool). not (not b)) (lt-ltb compacted r.key.main above))
-                | inr n ↦ or_right (not (is_old compacted (revision_of e))) (among stored_keys e.key)
+                    or_left (not (passes (is_until compacted) (revision_of e))) (among stored_keys e.key)
+                    (ap (λ (o : Option RevisionView). not (passes (is_until compacted) o)) read
+                    ∙ ap (λ (b : Bool). not (not b)) (lt-ltb compacted r.key.main above))
+                | inr n ↦ or_right (not (passes (is_until compacted) (revision_of e))) (among stored_keys e.key)
                     (among_true stored_keys e.key
                     (subst (Contains stored_keys) (stored_key_is e r read)
                     (shows_has (λ (x : RevisionView). x.stored_key) put.newest r ((put.are (own_keys e has) r).1 (newest_to e has r read n)))))
@@ -279,36 +281,51 @@ module _ (recovered : List Member) (found : List LeafElement) (all : List EntryV
 
 -- ---- the repair of a file
 
-module _ (file : List ℕ) (meta : Meta) (search : Bool) (found : List ℕ) (are_found : AreSought file meta search found) (all agreed back : List EntryView)
-    (met : List Key) (under : Option Item) (noted : Option (List ℕ)) (revisions : List RevisionView)
-    (candidates : AreCandidates (elements_on file meta found) all) (agree : AreUndisputed (without met all) agreed) (recovered : List Member)
-    (recovers : IsRecovered file meta recovered)
-    (store : IsRecoveredStore (readable recovered) all under noted revisions met) (put : ArePutBack (compacted_by noted) revisions agreed back)
-    (meta_is_made : Bool) (makes_it : MakesMeta recovered meta_is_made) where
+-- What is found and recovered of a file, by which these are the candidates, those that are agreed, and those that go back.
+pub record IsFound (file : List ℕ) (meta : Meta) (search : Bool) (all agreed back : List EntryView) (met : List Key) (under : Option Item)
+    (meta_is_made : Bool) : Type 0 where
+  pub found : List ℕ
+  pub sought : AreSought file meta search found
+  pub candidates : AreCandidates (elements_on file meta found) all
+  pub recovered : List Member
+  pub recovers : IsRecovered file meta recovered
+  pub noted : Option (List ℕ)
+  pub revisions : List RevisionView
+  pub store : IsRecoveredStore (readable recovered) all under noted revisions met
+  pub agree : AreUndisputed (without met all) agreed
+  pub put : ArePutBack (compacted_by noted) revisions agreed back
+  pub makes_meta : MakesMeta recovered meta_is_made
+
+module _ {file : List ℕ} {meta : Meta} {search : Bool} {all agreed back : List EntryView} {met : List Key} {under : Option Item} {meta_is_made : Bool}
+    (is : IsFound file meta search all agreed back met under meta_is_made) where
+  abbrev kept_of : List Member
+  kept_of = readable is.recovered
+
   abbrev elements : List LeafElement
-  elements = elements_on file meta found
+  elements = elements_on file meta is.found
+
+  rises : Rises member_cmp kept_of
+  rises = readable_rises is.recovered is.recovers.rises
 
   pub back_least : (keys : List Key) → AreKeys (without met all) keys → length back ≤ length keys
   back_least keys are =
-      back_fewer (readable recovered) elements all met under noted revisions candidates store agreed agree (readable_rises recovered recovers.rises)
-      (compacted_by noted) back put keys are
+      back_fewer kept_of elements all met under is.noted is.revisions is.candidates is.store agreed is.agree rises (compacted_by is.noted) back is.put keys are
 
   module _ (lacks : Bool) (is_lacking : lacks_bucket under ≡ Some lacks) (is_made : Bool) (made : is_made ≡ (lacks && not (is_nil back))) where
     pub repair : IsRepair file meta search back (record { store = is_made; meta = meta_is_made })
     repair = record {
-      recovered = recovered;
-      recovers = recovers;
-      found = found;
-      are_found = are_found;
-      compacted = compacted_by noted;
-      is_compacted = compacted_at (readable recovered) elements all met under noted revisions candidates store;
+      recovered = is.recovered;
+      recovers = is.recovers;
+      found = is.found;
+      are_found = is.sought;
+      compacted = compacted_by is.noted;
+      is_compacted = compacted_at kept_of elements all met under is.noted is.revisions is.candidates is.store;
       are_back =
-          are_back (readable recovered) elements all met under noted revisions candidates store agreed agree (readable_rises recovered recovers.rises)
-          (compacted_by noted) back put;
+          are_back kept_of elements all met under is.noted is.revisions is.candidates is.store agreed is.agree rises (compacted_by is.noted) back is.put;
       makes =
-          subst (MakesStore (readable recovered) back) (sym made)
-          (makes (readable recovered) elements all met under noted revisions candidates store lacks is_lacking back);
-      makes_meta = makes_it;
+          subst (MakesStore kept_of back) (sym made)
+          (makes kept_of elements all met under is.noted is.revisions is.candidates is.store lacks is_lacking back);
+      makes_meta = is.makes_meta;
     }
 
     pub full_repair : (keys : List Key) → AreKeys (without met all) keys → (left_out : ℕ) → left_out ≡ length keys - length back
@@ -318,7 +335,11 @@ module _ (file : List ℕ) (meta : Meta) (search : Bool) (found : List ℕ) (are
         let few = back_least keys are in
         record {
           repair = repair;
-          left = (keys, candidate_keys (readable recovered) elements all met under noted revisions candidates store keys are, omega (arith, few, number));
-          bucket = λ value has. no_value (readable recovered) elements all met under noted revisions candidates store lacks is_lacking value
-              (kept (λ (m : Member). is_readable m.0 m.1) recovered (store_path, Value value) has refl);
+          left = (
+            keys,
+            candidate_keys kept_of elements all met under is.noted is.revisions is.candidates is.store keys are,
+            omega (arith, few, number),
+          );
+          bucket = λ value has. no_value kept_of elements all met under is.noted is.revisions is.candidates is.store lacks is_lacking value
+              (kept (λ (m : Member). is_readable m.0 m.1) is.recovered (store_path, Value value) has refl);
         }

@@ -5,7 +5,7 @@ use Rattle.bolt_check.specs.Keys.{Key, key_cmp}
 use Rattle.bolt_format.specs.Bytes.{IsBytes}
 use Rattle.bolt_tree.specs.{Entries.EntryView, InBuckets.entry_in, Listing.Member, Paths.Path}
 use Rattle.bolt_recover.specs.Losses.{LossView, LostView, everything, parts}
-use Rattle.bolt_etcd.specs.{Wire.UnreadEntries.No_record, Wire.UnreadEntries.UnreadView, Wire.UnreadEntries.Other_key, Wire.RevisionKeys.revision_key}
+use Rattle.bolt_etcd.specs.{Wire.UnreadEntries.No_record, Wire.UnreadEntries.UnreadView, Wire.UnreadEntries.Unread_key, Wire.RevisionKeys.revision_key}
 use Rattle.bolt_etcd.specs.{Wire.Revisions.RevisionView, Wire.Revisions.name_of, Wire.Revisions.revision_of}
 use Rattle.bolt_etcd.specs.{declared.wire.revision_key.RevisionKey.RevisionKey}
 use Rattle.bolt_etcd.specs.Store.BucketNames.{key_bucket}
@@ -65,18 +65,18 @@ bound_of_lost (everything x) = Any
 bound_of_lost (parts losses) = bound_of_losses losses
 
 -- the bound of an entry that isn't copied: its transaction, if it has the key of a revision
-abbrev pub bound_of_other : UnreadView → Bound
-bound_of_other (Other_key key) = Any
-bound_of_other (No_record k) = UpTo k.main
+abbrev pub bound_of_entry : UnreadView → Bound
+bound_of_entry (Unread_key key) = Any
+bound_of_entry (No_record k) = UpTo k.main
 
-abbrev pub bound_of_others : List UnreadView → Bound
-bound_of_others [] = Nothing
-bound_of_others (other ∷ others) = greater (bound_of_other other) (bound_of_others others)
+abbrev pub bound_of_unread : List UnreadView → Bound
+bound_of_unread [] = Nothing
+bound_of_unread (other ∷ unread_views) = greater (bound_of_entry other) (bound_of_unread unread_views)
 
 -- Of all that is reported: the greatest; any, if the newest state may be lost.
 abbrev pub repair_bound : LostView → List UnreadView → (is_older : Bool) → Bound
-repair_bound lost others true = Any
-repair_bound lost others false = greater (bound_of_lost lost) (bound_of_others others)
+repair_bound lost unread_views true = Any
+repair_bound lost unread_views false = greater (bound_of_lost lost) (bound_of_unread unread_views)
 
 -- ---- what it says
 
@@ -107,12 +107,12 @@ MayLose (parts losses) key = (loss : LossView) × Contains losses loss × MayTak
 
 -- An entry that isn't copied may be what this key had: It has the key, or one that isn't that of a revision.
 abbrev pub MayHide : UnreadView → Key → Type 0
-MayHide (Other_key other) key = Unit {0}
+MayHide (Unread_key other) key = Unit {0}
 MayHide (No_record k) key = revision_key key ≡ Some k
 
 -- something that is reported may have taken the entry under this key
-abbrev pub IsReported : LostView → List UnreadView → (is_older : Bool) → Key → Type 0
-IsReported lost others is_older key = (is_older ≡ true) ⊎ (MayLose lost key ⊎ ((other : UnreadView) × Contains others other × MayHide other key))
+abbrev pub MayBeTaken : LostView → List UnreadView → (is_older : Bool) → Key → Type 0
+MayBeTaken lost unread_views is_older key = (is_older ≡ true) ⊎ (MayLose lost key ⊎ ((other : UnreadView) × Contains unread_views other × MayHide other key))
 
 -- no revision of its name in the bucket is of a later transaction
 abbrev pub IsLastOfName : List Member → RevisionView → Type 0
@@ -133,6 +133,6 @@ HaveByteBounds (parts losses) = (loss : LossView) → Contains losses loss → I
 -- The bucket `key` of a whole listing is recovered, but for what is reported.
 pub record LosesReported (whole recovered : List Member) (lost : LostView) (is_older : Bool) : Type 0 where
   pub but : (e : EntryView) → Contains whole (entry_in store_path e)
-      → Contains recovered (entry_in store_path e) ⊎ IsReported lost (unread recovered) is_older e.key
+      → Contains recovered (entry_in store_path e) ⊎ MayBeTaken lost (unread recovered) is_older e.key
   pub keys : (e : EntryView) → Contains whole (entry_in store_path e) → IsBytes e.key
   pub bounds : HaveByteBounds lost

@@ -47,8 +47,8 @@ pub record AreCandidates (elements : List LeafElement) (es : List EntryView) : T
 
 -- The candidates on the pages that a search of a file finds, in any case or only if something is lost.
 abbrev pub AreSearched : LostAndFound → (search : Bool) → List EntryView → Type 0
-AreSearched both search es =
-    ∥ ((found : List ℕ) × AreSought both.file.now both.meta search found × AreCandidates (elements_on both.file.now both.meta found) es) ∥₁
+AreSearched searched search es =
+    ∥ ((found : List ℕ) × AreSought searched.file.now searched.meta search found × AreCandidates (elements_on searched.file.now searched.meta found) es) ∥₁
 
 -- an entry has this key
 abbrev pub HasKey : List EntryView → Key → Type 0

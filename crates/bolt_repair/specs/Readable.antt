@@ -3,12 +3,12 @@ use Rattle.std.specs.Prelude.{◌&&◌, Bool, false, List, [], ◌∷◌, Option
 use Rattle.std.specs.{List.filter_map, Str.bytes_eq}
 use Rattle.bolt_check.specs.Keys.{Key}
 use Rattle.bolt_tree.specs.{Entries.EntryView, Entries.Item, Listing.Member, Paths.Path}
-use Rattle.bolt_etcd.specs.Wire.UnreadEntries.{UnreadView, other_of}
+use Rattle.bolt_etcd.specs.Wire.UnreadEntries.{UnreadView, unread_entry_of}
 use Rattle.bolt_etcd.specs.Store.BucketNames.{key_bucket}
 
 -- what an entry of the bucket `key` is, if it is neither a revision nor a mark
 abbrev pub unread_in : Key → EntryView → Option UnreadView
-unread_in bucket entry = if bytes_eq bucket key_bucket then other_of entry else None
+unread_in bucket entry = if bytes_eq bucket key_bucket then unread_entry_of entry else None
 
 abbrev pub unread_at : Path → Item → Option UnreadView
 unread_at [] item = None

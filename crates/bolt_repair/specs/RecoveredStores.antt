@@ -1,14 +1,14 @@
 -- What the recovered listing says of a store.
-use Rattle.std.specs.Prelude.{◌≡◌, ◌↔◌, ◌<◌, ◌≤◌, ℕ, true, List, ◌∷◌, ◌++◌, [], Option, Some, length, map}
+use Rattle.std.specs.Prelude.{◌≡◌, ◌↔◌, ◌<◌, ◌≤◌, ℕ, true, List, ◌∷◌, ◌++◌, [], Option, Some, filter, length, map}
 use Rattle.std.specs.{Borrow.Bor, List.Contains, Option.option_map, Option.option_to_list}
 use Rattle.std.specs.declared.cmp.Ordering.TheVariants.{Less}
 use Rattle.bolt_lemmas.specs.Order.{Rises}
-use Rattle.bolt_check.specs.{Counts.counted, Counts.saturated, Keys.Key, Keys.key_cmp, Sound.HasSoundTrees}
+use Rattle.bolt_check.specs.{Counts.counted, Keys.Key, Keys.key_cmp}
 use Rattle.bolt_recover.specs.{Recovered.ForRecovered, declared.lost_and_found.LostAndFound.LostAndFound}
 use Rattle.bolt_tree.specs.{Entries.EntryView, Entries.Item, Entries.Value, InBuckets.entry_in, Listing.Member, Listing.member_cmp}
 use Rattle.bolt_tree.specs.{ShownEntries.item_view}
 use Rattle.bolt_repair.specs.{Candidates.HasKey, Readable.readable, Readable.unread, Repairs.HasMeta, Repairs.IsKeptRevision, Repairs.compaction_path}
-use Rattle.bolt_repair.specs.{Repairs.store_path}
+use Rattle.bolt_repair.specs.{Repairs.store_path, StorePaths.is_in_store}
 use Rattle.bolt_etcd.specs.{Wire.Revisions.RevisionView, Wire.Revisions.revision_of, Wire.UnreadEntries.shown_unread, Wire.ShownRevisions.shown_revision}
 use Rattle.bolt_repair.specs.declared.recovered_store.RecoveredStore.{RecoveredStore}
 
@@ -34,10 +34,15 @@ pub record IsStoreNoted (members : List Member) (candidates : List EntryView) (n
   pub unread : map shown_unread noted.unread.items ≡ unread members
   pub meta : (noted.has_meta ≡ true) ↔ HasMeta members
 
--- There is room for each member that is recovered of a damaged file, and for the candidates, if there are any.
+-- the entries of the bucket `key` among these
+abbrev pub store_entries : List Member → List Member
+store_entries members = filter (λ (m : Member). is_in_store m.0) members
+
+-- If there are candidates, there is room for them and for each entry of the recovered bucket `key`.
 abbrev pub HasRoomForRecovered : LostAndFound → (candidates room : ℕ) → Type 0
-HasRoomForRecovered both candidates room = 0 < candidates → (HasSoundTrees both.file.now both.meta → ⊥)
-    → ForRecovered both.file.now both.meta (λ listing. counted (saturated (length listing)) candidates ≤ room)
+HasRoomForRecovered searched candidates room =
+    0 < candidates
+    → ForRecovered searched.file.now searched.meta (λ recovered. counted (counted 0 (length (store_entries recovered))) candidates ≤ room)
 
 -- a member comes after these
 abbrev pub ComesAfter : List Member → Member → Type 0

@@ -1,10 +1,12 @@
 -- What the members of the repaired listing show.
-use Rattle.std.specs.Prelude.{ℕ, Bool, List, length, ⊤}
+use Rattle.std.specs.Prelude.{◌≡◌, ℕ, Bool, List, [], length, ⊤}
 use Rattle.bolt_format.specs.declared.meta.Meta.{Meta}
 use Rattle.bolt_tree.specs.{Listing.Member, Merging.merged_left, Merging.merged_path, Merging.merged_work, Paths.Path}
+use Rattle.bolt_recover.specs.Recovered.{ForRecovered}
 use Rattle.bolt_repair.specs.ReadableLeft.{readable_left, readable_path, readable_work}
 use Rattle.bolt_repair.specs.{FullRepairs.IsFullRepair, PutBackMembers.put_back_left, PutBackMembers.put_back_path, RepairedMerges.all_listings}
-use Rattle.bolt_repair.specs.{RepairedMerges.repair_back, RepairedMerges.repair_made, declared.put_back.PutBack.PutBack}
+use Rattle.bolt_repair.specs.{Readable.unread, Repaired.HasStore, RepairedMerges.repair_back, RepairedMerges.repair_made}
+use Rattle.bolt_repair.specs.{RepairedMerges.repair_unread, declared.put_back.PutBack.PutBack}
 use Rattle.bolt_repair.specs.{declared.repair.Repair.Repair, declared.repaired_listing.RepairedListing.RepairedListing}
 
 -- the file that is repaired, and the meta that it is read under
@@ -18,9 +20,15 @@ repair_meta repair = repair.searched.now.meta
 abbrev pub repair_search : Repair → Bool
 repair_search repair = repair.search
 
--- a repair is all that goes back, and says how many candidates don't
-abbrev pub IsWholeRepair : Repair → Type 0
-IsWholeRepair repair = ∥ IsFullRepair (repair_file repair) (repair_meta repair) repair.search (repair_back repair) (repair_made repair) repair.left_out ∥₁
+-- The repair of a file under a meta: all that goes back, how many keys of candidates don't, and what can't be read. If nothing goes back, the
+-- bucket is there.
+pub record IsRepairOf (file : List ℕ) (meta : Meta) (search : Bool) (repair : Repair) : Type 0 where
+  pub same_file : repair_file repair ≡ file
+  pub same_meta : repair_meta repair ≡ meta
+  pub same_search : repair_search repair ≡ search
+  pub full : ∥ IsFullRepair file meta search (repair_back repair) (repair_made repair) repair.left_out ∥₁
+  pub store : repair_back repair ≡ [] → ForRecovered file meta HasStore
+  pub leaves : ForRecovered file meta (λ recovered. repair_unread repair ≡ unread recovered)
 
 unfoldable pub repaired_file : RepairedListing → List ℕ
 repaired_file repaired = repair_file repaired.repair.now

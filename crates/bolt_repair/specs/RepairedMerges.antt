@@ -29,6 +29,6 @@ all_listings repair = (
 -- the listings of a repair are merged
 abbrev pub ReadsRepaired : Merged (Merged ReadableMembers PutBack) PutBack → Repair → Type 0
 ReadsRepaired members repair = merged_reads (λ (both : Merged ReadableMembers PutBack) (listings : List Member × List Member).
-    merged_reads (λ (kept : ReadableMembers) (listing : List Member). IsRecovered (readable_file kept) (readable_meta kept) listing) IsPutBack both
-    listings) IsPutBack members
+    merged_reads (λ (readable : ReadableMembers) (listing : List Member). IsRecovered (readable_file readable) (readable_meta readable) listing) IsPutBack
+    both listings) IsPutBack members
     (all_listings repair)

@@ -4,12 +4,11 @@ use Rattle.std.specs.Prelude.{◌≡◌, ◌≢◌, ◌↔◌, ◌⊎◌, ◌<�
 use Rattle.std.specs.declared.cmp.Ordering.TheVariants.{Less}
 use Rattle.bolt_lemmas.specs.Order.{Rises}
 use Rattle.bolt_format.specs.Elements.{LeafElement}
-use Rattle.bolt_check.specs.Keys.{key_cmp}
 use Rattle.bolt_tree.specs.{Entries.EntryView, Entries.Item, Entries.Value, Entries.entry_view, InBuckets.entry_in, InBuckets.view_cmp}
 use Rattle.bolt_tree.specs.{Listing.Member, Paths.Path}
 use Rattle.bolt_etcd.specs.{Store.Compacted.compacted_by, Check.Misplaced.is_misplaced, Wire.Revisions.RevisionView, Wire.Revisions.name_of}
 use Rattle.bolt_etcd.specs.{Wire.Revisions.revision_of}
-use Rattle.bolt_etcd.specs.Store.BucketNames.{compaction_key, key_bucket, meta_bucket}
+use Rattle.bolt_etcd.specs.{Store.BucketNames.compaction_key, Store.BucketNames.key_bucket, Store.BucketNames.meta_bucket, Store.Orders.stored_key_cmp}
 
 -- the bucket of the revisions
 abbrev pub store_path : Path
@@ -56,9 +55,9 @@ pub record IsNewestUpTo (compacted : ℕ) (recovered : List Member) (found : Lis
   pub there : r.key.deleted ≡ false
   pub until : r.key.main ≤ compacted
   pub kept : (other : RevisionView) → IsKeptRevision recovered other → name_of other ≡ name_of r → other.key.main ≤ compacted
-      → key_cmp r.stored_key other.stored_key ≢ Less
+      → stored_key_cmp r other ≢ Less
   pub agreed : (e : EntryView) (other : RevisionView) → IsAgreed recovered found e other → name_of other ≡ name_of r → other.key.main ≤ compacted
-      → key_cmp r.stored_key other.stored_key ≢ Less
+      → stored_key_cmp r other ≢ Less
 
 -- What goes back: it is above the last compaction, or what that keeps of its name.
 abbrev pub GoesBack : ℕ → List Member → List LeafElement → EntryView → Type 0

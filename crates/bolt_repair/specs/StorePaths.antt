@@ -19,6 +19,13 @@ IsStorePath path Other =
     (path ≡ store_path → ⊥) × ((key : Key) → path ≡ store_path ++ key ∷ [] → ⊥) × (path ≡ compaction_path → ⊥) × (path ≡ meta_path → ⊥)
     × (is_in_inner_bucket path ≡ false)
 
+-- whether a path is that of an entry of the bucket `key`
+abbrev pub is_in_store : Path → Bool
+is_in_store [] = false
+is_in_store (bucket ∷ []) = false
+is_in_store (bucket ∷ key ∷ []) = bytes_eq bucket key_bucket
+is_in_store (bucket ∷ key ∷ more ∷ path) = false
+
 -- whether a path is that of the bucket `key`, or of an entry in it
 abbrev pub is_near : Path → Bool
 is_near [] = false

@@ -1,7 +1,7 @@
 -- The members that etcd can read, one after another.
 use Rattle.std.specs.Prelude.{◌≡◌, ◌||◌, ◌⊎◌, Bool, true, false, List, [], ◌∷◌, Option, Some, None, IfSome, if◌then◌else◌, not}
 use Rattle.bolt_tree.specs.{Entries.Item, Listing.Member, Paths.Path}
-use Rattle.bolt_recover.specs.{KeptMembers.kept_file, KeptMembers.kept_meta, Recovered.IsRecovered}
+use Rattle.bolt_recover.specs.{RecoveredMembers.recovered_file, RecoveredMembers.recovered_meta, Recovered.IsRecovered}
 use Rattle.bolt_recover.specs.{declared.recovered_listing.RecoveredListing.RecoveredListing}
 use Rattle.bolt_repair.specs.{Readable.is_readable, NearPaths.near_path, StorePaths.is_near}
 use Rattle.bolt_repair.specs.declared.store_path.NearPath.{NearPath}
@@ -16,15 +16,15 @@ strip near (m ∷ ms) = if not near || is_readable m.0 m.1 then m ∷ strip (is_
 abbrev pub KeepsPath : Option NearPath → Path → Type 0
 KeepsPath near path = IfSome near (λ (held : NearPath). near_path held ≡ path)
 
--- the path of the last member, if this is that of what is kept
+-- the path of the last member, if the recovered listing is at this path
 abbrev pub last_of : (has_passed : Bool) → Option NearPath → Path → Path
 last_of true (Some near) path = near_path near
 last_of true None path = path
 last_of false near path = path
 
 -- the recovered listing of its file
-abbrev pub ReadsKept : RecoveredListing → List Member → Type 0
-ReadsKept kept listing = IsRecovered (kept_file kept) (kept_meta kept) listing
+abbrev pub ReadsRecovered : RecoveredListing → List Member → Type 0
+ReadsRecovered recovered listing = IsRecovered (recovered_file recovered) (recovered_meta recovered) listing
 
 -- the first of those that are left without these is returned, at this path; or none is left
 abbrev pub GivesReadable : (near : Bool) → (old new : List Member) → Path → Option Item → Type 0

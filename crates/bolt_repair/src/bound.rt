@@ -3,7 +3,7 @@ ghost use Rattle.std.specs.Prelude.{◌≡◌, map};
 ghost use Rattle.std.specs.Option.{option_map};
 ghost use Rattle.bolt_etcd.specs.Wire.UnreadEntries.{shown_unread};
 ghost use Rattle.bolt_recover.specs.ShownLosses.{loss_view, lost_view};
-ghost use Rattle.bolt_repair.specs.Bounds.{bound_below, bound_in, bound_of_loss, bound_of_losses, bound_of_lost, bound_of_other, bound_of_others};
+ghost use Rattle.bolt_repair.specs.Bounds.{bound_below, bound_in, bound_of_loss, bound_of_losses, bound_of_lost, bound_of_entry, bound_of_unread};
 ghost use Rattle.bolt_repair.specs.Bounds.{greater, holds_store, repair_bound};
 
 use bolt_etcd::{KEY_BUCKET, RevisionKey, UnreadEntry};
@@ -28,7 +28,7 @@ impl Bound {
         if is_older {
             return Bound::Any;
         }
-        of_lost(lost).or(of_others(unread))
+        of_lost(lost).or(of_unread(unread))
     }
 
     /// The greater of two.
@@ -116,19 +116,19 @@ fn below(upper: Option<&[u8]>) -> Bound
     }
 }
 
-fn of_others(unread: &[UnreadEntry<'_>]) -> Bound
-    ensures { result ≡ bound_of_others (map shown_unread unread.now) }
+fn of_unread(unread: &[UnreadEntry<'_>]) -> Bound
+    ensures { result ≡ bound_of_unread (map shown_unread unread.now) }
 {
     let mut bound = Bound::Nothing;
     'rest: for other in unread {
-        bound = bound.or(of_other(other));
+        bound = bound.or(of_entry(other));
     }
     bound
 }
 
 /// The bound of an entry that isn't copied.
-fn of_other(other: &UnreadEntry<'_>) -> Bound
-    ensures { result ≡ bound_of_other (shown_unread other.now) }
+fn of_entry(other: &UnreadEntry<'_>) -> Bound
+    ensures { result ≡ bound_of_entry (shown_unread other.now) }
 {
     match other {
         UnreadEntry::Key(_) => Bound::Any,

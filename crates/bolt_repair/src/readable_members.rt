@@ -3,9 +3,9 @@ ghost use Rattle.std.specs.Option.{option_map};
 ghost use Rattle.std.specs.Prelude.{◌≡◌, ◌↔◌, ◌<◌, [], IfOk, IfSome, List, OnErr, false};
 ghost use Rattle.std.proofs.Props.{props};
 ghost use Rattle.bolt_tree.specs.{Listing.Member, ShownEntries.item_view};
-ghost use Rattle.bolt_recover.specs.{KeptMembers.kept_left, KeptMembers.kept_path, KeptMembers.kept_work, Recovered.ForRecovered};
-ghost use Rattle.bolt_recover.specs.{Recovered.IsRecovered};
-ghost use Rattle.bolt_repair.specs.Stripped.{GivesReadable, KeepsPath, PassesOver, ReadsKept, strip};
+ghost use Rattle.bolt_recover.specs.Recovered.{ForRecovered, IsRecovered};
+ghost use Rattle.bolt_recover.specs.RecoveredMembers.{recovered_left, recovered_path, recovered_work};
+ghost use Rattle.bolt_repair.specs.Stripped.{GivesReadable, KeepsPath, PassesOver, ReadsRecovered, strip};
 
 use crate::store_path::{NearPath, is_readable};
 use bolt_recover::{LostAndFound, RecoveredListing};
@@ -17,12 +17,12 @@ use std::alloc::Global;
 /// kept while they are passed over, in which memory may run out.
 #[derive(Drop)]
 pub(crate) struct ReadableMembers<'a> {
-    kept: RecoveredListing<'a>,
+    recovered: RecoveredListing<'a>,
     /// The path of the last member, if it is that of the bucket `key` or of an entry in it.
     near: Option<NearPath<'a>>,
     /// Whether members were passed over since.
     has_passed: bool,
-    ghost same: { has_passed ≡ false → KeepsPath near (kept_path kept) } by { Prim.hlevel props },
+    ghost same: { has_passed ≡ false → KeepsPath near (recovered_path recovered) } by { Prim.hlevel props },
 }
 
 #[tactic(auto, unfolding(crate::specs::ReadableLeft::readable_left, crate::specs::ReadableLeft::readable_path))]
@@ -41,9 +41,9 @@ impl<'a> ReadableMembers<'a> {
             readable_left members listing ≡ strip false listing)) }
         ensures path { IfOk result (λ members. readable_path members ≡ []) }
     {
-        let kept = RecoveredListing::of(alloc, searched)?;
+        let recovered = RecoveredListing::of(alloc, searched)?;
         Ok(ReadableMembers {
-            kept,
+            recovered,
             near: None,
             has_passed: false,
         })
@@ -69,8 +69,12 @@ impl<'a> Members<'a> for ReadableMembers<'a> {
     ghost ends_as = { λ members end. Unit {0} };
 
     fn next(&mut self) -> Result<Option<Item<'a>>, NoMemory> {
-        let item = next_readable(&mut self.kept, &mut self.has_passed, self.near.is_some())?;
-        self.near = NearPath::of(self.kept.path());
+        let item = next_readable(
+            &mut self.recovered,
+            &mut self.has_passed,
+            self.near.is_some(),
+        )?;
+        self.near = NearPath::of(self.recovered.path());
         self.has_passed = false;
         Ok(item)
     }
@@ -78,36 +82,36 @@ impl<'a> Members<'a> for ReadableMembers<'a> {
     fn path(&self) -> &[&'a [u8]] {
         match &self.near {
             Some(near) if self.has_passed => near.parts(),
-            _ => self.kept.path(),
+            _ => self.recovered.path(),
         }
     }
 
     fn restart(&mut self, alloc: Global) -> Result<(), NoMemory> {
         self.near = None;
         self.has_passed = false;
-        self.kept.restart(alloc)
+        self.recovered.restart(alloc)
     }
 }
 
 /// Returns the first member that is left, without those that etcd can't read if they come after the bucket
 /// `key` or an entry in it. Says whether it passed over one.
 fn next_readable<'a>(
-    kept: &mut RecoveredListing<'a>,
+    recovered: &mut RecoveredListing<'a>,
     has_passed: &mut bool,
     is_near: bool,
 ) -> Result<Option<Item<'a>>, NoMemory>
-    ensures reads { (whole : List Member) → ReadsKept kept.new whole ↔ ReadsKept kept.old whole }
-    ensures given { IfOk result (λ given. (whole : List Member) → ReadsKept kept.old whole
-        → GivesReadable is_near (kept_left kept.old whole) (kept_left kept.new whole)
-        (kept_path kept.new) (option_map item_view given)) }
-    ensures fewer { IfOk result (λ given. IfSome given (λ _. kept_work kept.new < kept_work kept.old)) }
-    ensures same { OnErr result ((whole : List Member) → ReadsKept kept.old whole
-        → strip is_near (kept_left kept.new whole) ≡ strip is_near (kept_left kept.old whole)) }
+    ensures reads { (whole : List Member) → ReadsRecovered recovered.new whole ↔ ReadsRecovered recovered.old whole }
+    ensures given { IfOk result (λ given. (whole : List Member) → ReadsRecovered recovered.old whole
+        → GivesReadable is_near (recovered_left recovered.old whole) (recovered_left recovered.new whole)
+        (recovered_path recovered.new) (option_map item_view given)) }
+    ensures fewer { IfOk result (λ given. IfSome given (λ _. recovered_work recovered.new < recovered_work recovered.old)) }
+    ensures same { OnErr result ((whole : List Member) → ReadsRecovered recovered.old whole
+        → strip is_near (recovered_left recovered.new whole) ≡ strip is_near (recovered_left recovered.old whole)) }
     ensures passed { OnErr result (PassesOver is_near has_passed.old has_passed.new
-        (kept_path kept.old) (kept_path kept.new)) }
+        (recovered_path recovered.old) (recovered_path recovered.new)) }
 {
-    'rest: while let Some(item) = kept.next()? {
-        if !is_near || is_readable(kept.path(), item) {
+    'rest: while let Some(item) = recovered.next()? {
+        if !is_near || is_readable(recovered.path(), item) {
             return Ok(Some(item));
         }
         *has_passed = true;

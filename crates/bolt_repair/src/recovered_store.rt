@@ -1,13 +1,14 @@
 //! What the recovered listing says of a store.
-ghost use Rattle.std.specs.Prelude.{◌≡◌, ◌++◌, ◌∷◌, [], IfOk, OnOk, length, map, vec_capacity};
+ghost use Rattle.std.specs.Prelude.{◌≡◌, ◌≤◌, ◌++◌, ◌∷◌, [], IfOk, OnOk, length, map, vec_capacity};
+ghost use Rattle.bolt_check.specs.Counts.{counted};
 ghost use Rattle.bolt_lemmas.specs.Order.{Rises};
 ghost use Rattle.bolt_tree.specs.{InBuckets.entry_in, Paths.path_of, ShownEntries.item_view, ShownEntries.shown_entry};
 ghost use Rattle.bolt_recover.specs.Recovered.{ForRecovered};
-ghost use Rattle.bolt_repair.specs.{Candidates.whole_cmp, RecoveredStores.HasRoomForRecovered, RecoveredStores.KeepsRevision, Repairs.store_path};
+ghost use Rattle.bolt_repair.specs.{Candidates.whole_cmp, RecoveredStores.HasRoomForRecovered, RecoveredStores.KeepsRevision, RecoveredStores.store_entries, Repairs.store_path};
 ghost use Rattle.bolt_etcd.specs.{Wire.ShownRevisions.entry_of, Wire.ShownRevisions.shown_revision};
 
 use crate::candidates::has_candidate;
-use crate::store_path::{StorePath, store_path_of};
+use crate::store_path::{StorePath, is_in_store, store_path_of};
 use bolt_etcd::{Revision, UnreadEntry};
 use bolt_recover::{LostAndFound, RecoveredListing};
 use bolt_tree::{Entry, Item, Members, NoMemory};
@@ -56,9 +57,9 @@ impl<'a> RecoveredStore<'a> {
             has_meta: false,
             at: 0,
         };
-        let mut kept = RecoveredListing::of(alloc, searched)?;
-        'members: while let Some(item) = kept.next()? {
-            store.note(kept.path(), item, candidates)?;
+        let mut recovered = RecoveredListing::of(alloc, searched)?;
+        'members: while let Some(item) = recovered.next()? {
+            store.note(recovered.path(), item, candidates)?;
         }
         Ok(store)
     }
@@ -95,19 +96,18 @@ impl<'a> RecoveredStore<'a> {
             (entry_in store_path (shown_entry entry.now)) self.old self.new) }
     {
         if let Some(other) = UnreadEntry::of(entry) {
-            return add_other(&mut self.unread, other);
+            return push_to(&mut self.unread, other);
         }
         keep_revision(&mut self.kept, candidates, entry)?;
         if has_candidate(candidates, &mut self.at, entry.key) {
-            add_key(&mut self.met, entry.key)?;
+            push_to(&mut self.met, entry.key)?;
         }
         Ok(())
     }
 }
 
-/// Room for all revisions that are recovered and for the candidates, which come to them later, if there
-/// are any. So the list doesn't grow if something is lost: while it did, it would need up to three times
-/// as much. If nothing is lost, the members weren't counted, and it grows.
+/// Room for the entries of the recovered bucket `key` and for the candidates, which come to them later, if
+/// there are any: a list that grows needs up to three times as much.
 fn room_for_kept<'a>(
     alloc: Global,
     searched: &LostAndFound<'a>,
@@ -120,9 +120,36 @@ fn room_for_kept<'a>(
     if candidates.is_empty() {
         return Ok(Vec::new(alloc));
     }
-    let recovered = searched.recovered().unwrap_or(0);
-    let room = usize::try_from(recovered).unwrap_or(usize::MAX);
-    Ok(Vec::with_capacity(alloc, room.saturating_add(candidates.len()))?)
+    let entries = most_entries(alloc, searched)?;
+    Ok(Vec::with_capacity(alloc, entries.saturating_add(candidates.len()))?)
+}
+
+/// How many entries the recovered bucket `key` has at most. If something is lost, all members were counted
+/// as the file was searched, and else its entries are counted now.
+#[tactic(auto, using(crate::proofs::NotedMembers::entries_are_members))]
+fn most_entries(alloc: Global, searched: &LostAndFound<'_>) -> Result<usize, NoMemory>
+    ensures { IfOk result (λ most. ForRecovered searched.now.file.now searched.now.meta (λ recovered.
+        counted 0 (length (store_entries recovered)) ≤ most)) }
+{
+    match searched.recovered() {
+        Some(members) => Ok(usize::try_from(members).unwrap_or(usize::MAX)),
+        None => count_entries(alloc, searched),
+    }
+}
+
+/// The number of entries of the recovered bucket `key`. Saturates at 2^64 - 1.
+fn count_entries(alloc: Global, searched: &LostAndFound<'_>) -> Result<usize, NoMemory>
+    ensures { IfOk result (λ count. ForRecovered searched.now.file.now searched.now.meta (λ recovered.
+        count ≡ counted 0 (length (store_entries recovered)))) }
+{
+    let mut count = 0_usize;
+    let mut recovered = RecoveredListing::of(alloc, searched)?;
+    'members: while let Some(_) = recovered.next()? {
+        if is_in_store(recovered.path()) {
+            count = count.saturating_add(1);
+        }
+    }
+    Ok(count)
 }
 
 /// Keeps an entry of the bucket `key` if it is a revision, and there are candidates.
@@ -143,21 +170,11 @@ fn keep_revision<'a>(
     Ok(())
 }
 
-/// Adds an entry that is neither a revision nor a mark.
-fn add_other<'a>(others: &mut Vec<UnreadEntry<'a>>, other: UnreadEntry<'a>) -> Result<(), NoMemory>
-    ensures { OnOk result (others.new.items ≡ others.old.items ++ other.entry ∷ []) }
+/// Adds one to a list.
+fn push_to<T: Drop>(list: &mut Vec<T>, one: T) -> Result<(), NoMemory>
+    ensures { OnOk result (list.new.items ≡ list.old.items ++ one ∷ []) }
 {
-    match others.push(other) {
-        Ok(()) => Ok(()),
-        Err(_) => Err(NoMemory),
-    }
-}
-
-/// Adds a key.
-fn add_key<'a>(keys: &mut Vec<&'a [u8]>, key: &'a [u8]) -> Result<(), NoMemory>
-    ensures { OnOk result (keys.new.items ≡ keys.old.items ++ key.entry ∷ []) }
-{
-    match keys.push(key) {
+    match list.push(one) {
         Ok(()) => Ok(()),
         Err(_) => Err(NoMemory),
     }

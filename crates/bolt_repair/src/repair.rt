@@ -2,8 +2,7 @@
 ghost use Rattle.std.specs.Prelude.{◌≡◌, ◌↔◌, [], All, IfErr, IfOk, None, OnOk, Some, false, map, not, true};
 ghost use Rattle.std.specs.{Bool.OnFalse, List.Contains, List.Sorted.IsSorted, Option.option_map};
 ghost use Rattle.bolt_check.specs.Keys.{key_cmp};
-ghost use Rattle.bolt_recover.specs.Recovered.{ForRecovered};
-ghost use Rattle.bolt_repair.specs.{Candidates.AreSearched, Repaired.HasStore, Repaired.IsRepair, RepairRefusals.IsRepairRefusal, Readable.unread};
+ghost use Rattle.bolt_repair.specs.{Candidates.AreSearched, Repaired.IsRepair, RepairRefusals.IsRepairRefusal};
 ghost use Rattle.bolt_repair.specs.{Candidates.whole_cmp, Repaired.lacks_bucket, Undisputed.AreUndisputed, Undisputed.HaveKeys};
 ghost use Rattle.bolt_repair.specs.{WhatGoesBack.ArePutBack, WhatGoesBack.AreTheNewest, WhatGoesBack.goes_back, WhatGoesBack.old_revisions};
 ghost use Rattle.bolt_lemmas.specs.Order.{Rises};
@@ -47,14 +46,13 @@ pub struct Repair<'a> {
 }
 
 impl<'a> Repair<'a> {
-    ghost use Rattle.bolt_repair.specs.{RepairedMembers.IsWholeRepair, RepairedMembers.repair_file, RepairedMembers.repair_meta};
-    ghost use Rattle.bolt_repair.specs.{RepairedMembers.repair_search, RepairedMerges.repair_back, RepairedMerges.repair_unread};
+    ghost use Rattle.bolt_repair.specs.RepairedMembers.{IsRepairOf};
 
     /// Finds what goes back, and what can't be read. With `search` it looks for pages even if nothing is
-    /// lost. Goes over what is recovered once. If there are candidates, it needs 112 bytes for each of them,
-    /// 56 for each recovered member, and up to 48 for each candidate whose key is recovered, too. If nothing
-    /// is lost, the members weren't counted before: then it needs up to 168 for each recovered revision. It
-    /// also needs up to 96 bytes for each entry that can't be read.
+    /// lost. Goes over what is recovered once, or twice if nothing is lost and there are candidates. If there
+    /// are any, it needs 112 bytes for each of them, 56 for each recovered member (if nothing is lost, for
+    /// each entry of the bucket `key`), and up to 48 for each candidate whose key is recovered, too. It also
+    /// needs up to 96 bytes for each entry that can't be read.
     ///
     /// # Errors
     ///
@@ -66,15 +64,7 @@ impl<'a> Repair<'a> {
         searched: &'a LostAndFound<'_>,
         search: bool,
     ) -> Result<Repair<'a>, RepairFault>
-        ensures file { IfOk result (λ repair. repair_file repair ≡ searched.now.file.now) }
-        ensures meta { IfOk result (λ repair. repair_meta repair ≡ searched.now.meta) }
-        ensures search { IfOk result (λ repair. repair_search repair ≡ search) }
-        ensures back { IfOk result (λ repair. IsWholeRepair repair) }
-        ensures store { IfOk result (λ repair. repair_back repair ≡ []
-            → ForRecovered (repair_file repair) (repair_meta repair) HasStore) }
-        ensures unread { IfOk result (λ repair.
-            ForRecovered (repair_file repair) (repair_meta repair) (λ recovered.
-            repair_unread repair ≡ unread recovered)) }
+        ensures found { IfOk result (IsRepairOf searched.now.file.now searched.now.meta search) }
         ensures refused { IfErr result (IsRepairRefusal searched.now.file.now searched.now.meta search) }
     {
         let mut back = find_candidates(alloc, searched, search)?;
@@ -109,8 +99,8 @@ fn find_candidates<'a>(
 {
     a_loss_is_searched_for_in_any_case();
     if search && searched.lost().is_nothing() {
-        let unreached = searched.search_anyway(alloc)?;
-        return candidates_of(alloc, unreached.as_slice());
+        let found = searched.found_in_any_case(alloc)?;
+        return candidates_of(alloc, found.as_slice());
     }
     candidates_of(alloc, searched.found.as_slice())
 }
@@ -176,7 +166,7 @@ fn has_old(revisions: &[Revision<'_>], compacted: u64) -> bool
         (All (λ r. is_until compacted (shown_revision r) ≡ false) revisions.now) }
 {
     for revision in revisions {
-        if is_old(revision, compacted) {
+        if revision.is_until(compacted) {
             return true;
         }
     }
@@ -197,25 +187,18 @@ fn newest_until<'a>(
 {
     let mut newest = kept;
     newest.extend_from_slice(agreed)?;
-    newest.retain(|revision| is_old(revision, compacted));
+    newest.retain(|revision| revision.is_until(compacted));
     keep_newest(&mut newest);
     newest.sort_unstable_by(|a, b| a.cmp_stored_key(b));
     Ok(newest)
 }
 
-/// Whether the last compaction may have removed it.
-fn is_old(revision: &Revision<'_>, compacted: u64) -> bool
-    ensures { result ≡ is_until compacted (shown_revision revision.now) }
-{
-    revision.main() <= compacted
-}
-
-/// Whether it isn't old, or it is one of the newest ones, which are sorted by key.
+/// Whether a revision is after the last compaction, or one of the newest ones, which are sorted by key.
 fn goes_back(revision: &Revision<'_>, newest: &[Revision<'_>], compacted: u64) -> bool
     requires { IsSorted key_cmp (map (λ r. (entry_of r).key) newest.now) }
     ensures { result ≡ goes_back compacted (map shown_revision newest.now) (entry_of revision.now) }
 {
-    !is_old(revision, compacted) || has_stored_key(newest, revision)
+    !revision.is_until(compacted) || has_stored_key(newest, revision)
 }
 
 /// Whether one of these, which are sorted by key, has its key.

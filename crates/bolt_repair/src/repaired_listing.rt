@@ -50,12 +50,12 @@ impl<'a> RepairedListing<'a> {
         sought_pages_are_one();
         recovered_listing_is_of_a_tree();
         the_recovered_listing_is_recovered();
-        let kept = ReadableMembers::of(alloc, repair.searched)?;
+        let readable = ReadableMembers::of(alloc, repair.searched)?;
         let back = PutBack::new(alloc, &[KEY_BUCKET], repair.is_made, repair.back.as_slice())?;
         let nothing: &'a [Revision<'a>] = &[];
         let meta = PutBack::new(alloc, &[META_BUCKET], repair.makes_meta, nothing)?;
         Ok(RepairedListing {
-            members: Merged::new(Merged::new(kept, back), meta),
+            members: Merged::new(Merged::new(readable, back), meta),
             repair,
         })
     }

@@ -1,7 +1,7 @@
 //! Where a path leads, as far as a store is concerned, and which members etcd can read.
 ghost use Rattle.std.specs.Prelude.{◌≡◌, ◌≤◌, ◌∷◌, []};
 ghost use Rattle.bolt_tree.specs.{Paths.path_of, ShownEntries.item_view};
-ghost use Rattle.bolt_repair.specs.{Readable.is_readable, StorePaths.IsStorePath};
+ghost use Rattle.bolt_repair.specs.{Readable.is_readable, StorePaths.IsStorePath, StorePaths.is_in_store};
 
 use bolt_etcd::{COMPACTION_KEY, KEY_BUCKET, META_BUCKET, UnreadEntry};
 use bolt_tree::{Entry, Item};
@@ -58,6 +58,16 @@ fn bucket_entry<'a>(bucket: &[u8], key: &'a [u8]) -> StorePath<'a>
         StorePath::Compaction
     } else {
         StorePath::Other
+    }
+}
+
+/// Whether a path is that of an entry of the bucket `key`.
+pub(crate) fn is_in_store(path: &[&[u8]]) -> bool
+    ensures { result ≡ is_in_store (path_of path.now) }
+{
+    match path {
+        [bucket, _] => *bucket == KEY_BUCKET,
+        _ => false,
     }
 }
 

@@ -61,11 +61,13 @@ module _ (checked : Checked) (is : has_accounts checked ≡ true) where
       (λ sound. ∥∥₁_elim has (Prim.hlevel (props, ⊎_set)) (λ h. one_role file meta sound n found (roles n) h (are n below)))
 
   -- a page in the file: its place among these, and its row
-  pub next_row : (roles : ℕ → Role) → AreRoles file meta roles → (n : ℕ) (found : Role) → n < min (begun file meta) meta.high_water
+  pub next_row : (roles : ℕ → Role) → AreRoles file meta roles → (n : ℕ) (found : Role) → n < length (rows_in checked)
       → ∥ HasRole file meta n found ∥₁
       → (slice_get (rows_in checked) n ≡ Some n) × (page_row file meta n found ≡ row_of checked roles n)
-  next_row roles are n found below has =
-      (number_at_place (min (begun file meta) meta.high_water) n below, ap (page_row file meta n) (same_role roles are n found (omega (arith, below)) has))
+  next_row roles are n found within has =
+      let pages : ℕ = min (begun file meta) meta.high_water in
+      let below : n < pages = omega (arith, within, length-range_with_len 0 pages) in
+      (number_at_place pages n below, ap (page_row file meta n) (same_role roles are n found (omega (arith, below)) has))
 
 -- each line has a page
 pub starts_below : (pages k : ℕ) → k < div_ceil pages 64 → 64 * k < pages

@@ -1,16 +1,12 @@
 -- What bbolt fails on: docs/COMMANDS.md, "Errors".
-use Rattle.std.specs.Prelude.{◌+◌, ℕ, List, ◌++◌, codes, decimal, flat_map, length}
+use Rattle.std.specs.Prelude.{◌+◌, List, ℕ, ◌++◌, codes, flat_map, length}
 use Rattle.bolt_check.specs.declared.bbolt_file.FileFinding.{FileFinding}
 use Rattle.bolt_check.specs.declared.bbolt_file.FileFinding.TheVariants.{LargeTxid, NotMetaPage, NotTaken, PastEnd}
 use Rattle.bolt_check.specs.declared.finding.Finding.{Finding}
-use Rattle.bolt_format.specs.declared.meta.Slot.{Slot}
-use Rattle.bolt_report.specs.{FaultWords.count_line, FaultWords.finding_text, FaultWords.pages_sentence, MetaLines.slot_number}
+use Rattle.bolt_report.specs.{FaultWords.count_line, FaultWords.finding_text, FaultWords.pages_sentence, MetaLines.meta_sentence, MetaLines.slot_number}
 use Rattle.bolt_text.specs.Lines.{line}
 
 -- the lines of findings on a file as a whole: on the meta of a slot, or on pages in a row
-abbrev pub meta_sentence : Slot → List ℕ → List ℕ
-meta_sentence slot words = codes "meta " ++ decimal (slot_number slot) ++ codes ": " ++ words
-
 abbrev pub file_finding_text : FileFinding → List ℕ
 file_finding_text (NotTaken slot) = line (meta_sentence slot (codes "not taken by bbolt"))
 file_finding_text (LargeTxid slot) = line (meta_sentence slot (codes "txid too large for bbolt"))

@@ -14,12 +14,15 @@ use Rattle.bolt_etcd.specs.declared.check.snapshot.SnapshotFault.TheVariants.{Ha
 use Rattle.bolt_text.specs.Lines.{line}
 
 -- why a file without a valid meta is refused
+abbrev pub meta_fault_words : MetaFault → List ℕ
+meta_fault_words Cut = codes "file too short"
+meta_fault_words Magic = codes "invalid database"
+meta_fault_words Version = codes "version mismatch"
+meta_fault_words Sum = codes "checksum error"
+meta_fault_words PageSize = codes "page size refused"
+
 abbrev pub meta_fault_text : MetaFault → List ℕ
-meta_fault_text Cut = line (codes "file too short")
-meta_fault_text Magic = line (codes "invalid database")
-meta_fault_text Version = line (codes "version mismatch")
-meta_fault_text Sum = line (codes "checksum error")
-meta_fault_text PageSize = line (codes "page size refused")
+meta_fault_text fault = line (meta_fault_words fault)
 
 -- why a file is no snapshot
 abbrev pub snapshot_fault_text : SnapshotFault → List ℕ
@@ -101,6 +104,6 @@ finding_sentence finding = pages_sentence finding.page finding.last (finding_wor
 abbrev pub finding_text : Finding → List ℕ
 finding_text finding = line (finding_sentence finding)
 
--- how many findings there are
+-- the line with the number of findings
 abbrev pub count_line : ℕ → List ℕ
 count_line count = decimal count ++ codes " errors found\n"

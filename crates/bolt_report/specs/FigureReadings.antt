@@ -7,7 +7,7 @@ use Rattle.bolt_text.specs.{Forms.json_text, JsonReadings.object_members, JsonRe
 use Rattle.bolt_stats.specs.declared.figures.Stats.{Stats}
 use Rattle.bolt_report.specs.{FigureForms.Named, SizeLines.bytes_allocated, SizeLines.bytes_used, SizeLines.size_json}
 
--- by what reads a key or a value
+-- `read` reads a name
 module _ (read : Json → Option (List ℕ)) where
   -- the sizes of a bucket: its keys, its bytes used and allocated, and its name, each by its name
   abbrev pub size_of_members : Members → Option (ℕ × ℕ × ℕ × List ℕ)
@@ -41,7 +41,7 @@ HaveWords (figure ∷ figures) = IfSome figure.1 (λ n. n < 2 ^ 64) × HaveWords
 abbrev pub named_size : Stats → List ℕ → ℕ × ℕ × ℕ × List ℕ
 named_size stats name = (stats.keys, bytes_used stats, bytes_allocated stats, name)
 
--- sizes as JSON, with names that are written so, are read back by this
+-- sizes as JSON, with the name as `write` writes it, are read back by `read`
 abbrev pub ReadsSizesBack : (read : Json → Option (List ℕ)) → (write : List ℕ → Json) → Type 0
 ReadsSizesBack read write = (stats : Stats) (name : List ℕ) → stats.keys < 2 ^ 64 → IsBytes name
     → option_and_then (size_of read) (document (json_text (size_json stats (write name)))) ≡ Some (named_size stats name)

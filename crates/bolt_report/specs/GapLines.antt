@@ -6,7 +6,7 @@ use Rattle.bolt_recover.specs.PageGaps.{PageGapView}
 use Rattle.bolt_report.specs.FaultWords.{count_line, finding_text}
 use Rattle.bolt_text.specs.{Lines.line, NamedPaths.named_key}
 
--- where the gap is
+-- the end of a gap's line: on which side of which element it is
 abbrev pub gap_end : GapView → List ℕ
 gap_end (before key) = codes ": gap before " ++ line (named_key key)
 gap_end (after key) = codes ": gap after " ++ line (named_key key)

@@ -9,7 +9,7 @@ use Rattle.bolt_text.specs.{Forms.value_text, declared.forms.Form.Form}
 abbrev pub keys_text : Form → List LeafElement → List ℕ
 keys_text form entries = flat_map (λ (e : LeafElement). value_text form e.key) entries
 
--- the keys of those that are buckets
+-- the keys of the entries that are buckets, a line for each
 abbrev pub buckets_text : Form → List LeafElement → List ℕ
 buckets_text form entries = keys_text form (filter (λ (e : LeafElement). e.is_bucket) entries)
 
@@ -17,6 +17,6 @@ buckets_text form entries = keys_text form (filter (λ (e : LeafElement). e.is_b
 abbrev pub ForCursor : Cursor → (List LeafElement → Type 0) → Type 0
 ForCursor cursor P = ForEntries (cursor_checked cursor) (cursor_start cursor) P
 
--- what one entry adds to these
+-- what one entry adds to the keys of buckets
 abbrev pub bucket_name : Form → LeafElement → List ℕ
 bucket_name form e = if e.is_bucket then value_text form e.key else []

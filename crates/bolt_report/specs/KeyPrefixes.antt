@@ -13,8 +13,8 @@ has_key_prefix prefix e = starts_with (λ a b. a == b) e.key prefix
 abbrev pub with_prefix : Key → List LeafElement → List LeafElement
 with_prefix prefix entries = filter (has_key_prefix prefix) entries
 
--- What is opened for them: what a seek of these bytes opens, and then the pages between each of them and the entry after it, or the
--- bucket's end.
+-- The pages that are opened for the entries with a prefix: those that a seek of it opens, and then those between each entry and the one after
+-- it, or the bucket's end.
 abbrev pub OpensPrefix : BucketView → Key → (old new : ℕ) → Type 0
 OpensPrefix b prefix old new =
     (entries : List LeafElement) (seek : ℕ) (gap : ℕ → ℕ) → AreEntriesOf b entries → IsSeekCount b.file b.meta b.start entries prefix seek

@@ -33,7 +33,7 @@ loss_text loss = (finding_sentence loss.finding ++ codes "; lost: ") ++ (bucket_
 abbrev pub losses_text : List LossView → List ℕ
 losses_text losses = flat_map loss_text losses
 
--- if the root page is lost, everything is
+-- the lines of what is lost; if the root page is lost, everything is
 abbrev pub lost_lines : LostView → List ℕ
 lost_lines (everything x) = finding_sentence x ++ codes "; lost: everything\n"
 lost_lines (parts losses) = losses_text losses

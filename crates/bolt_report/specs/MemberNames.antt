@@ -35,7 +35,7 @@ entry_name form wanted item (Some key) = if wanted key item then value_text form
 abbrev pub member_name : Form → WantedNames → (bucket : Path) → Member → List ℕ
 member_name form wanted bucket m = entry_name form wanted m.1 (key_in bucket m.0)
 
--- the lines of those in a bucket of a listing, and nothing if the listing doesn't have it
+-- the lines of the wanted entries in a bucket of a listing, and nothing if the listing doesn't have the bucket
 abbrev pub names_text : Form → WantedNames → (bucket : Path) → List Member → List ℕ
 names_text form wanted bucket listing = if has_bucket bucket listing then flat_map (member_name form wanted bucket) listing else []
 

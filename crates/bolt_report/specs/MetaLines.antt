@@ -2,7 +2,8 @@
 use Rattle.std.specs.Prelude.{◌==◌, ℕ, List, [], ◌∷◌, ◌++◌, Option, Some, None, codes, decimal, if◌then◌else◌}
 use Rattle.bolt_format.specs.{declared.meta.Meta.Meta, declared.meta.MetaFault.MetaFault, declared.meta.Slot.Slot}
 use Rattle.bolt_format.specs.{declared.meta.Slot.TheVariants.Zero, declared.meta.Slot.TheVariants.One, declared.meta.TheConstants.NO_FREELIST}
-use Rattle.bolt_report.specs.{FaultWords.meta_fault_text, FigureForms.Named, FigureForms.figures_text}
+use Rattle.bolt_report.specs.{FaultWords.meta_fault_words, FigureForms.Named, FigureForms.figures_text}
+use Rattle.bolt_text.specs.Lines.{line}
 use Rattle.bolt_text.specs.declared.forms.FigureForm.{FigureForm}
 
 abbrev pub slot_number : Slot → ℕ
@@ -13,9 +14,13 @@ slot_number One = 1
 abbrev pub freelist_of : ℕ → Option ℕ
 freelist_of id = if id == NO_FREELIST then None else Some id
 
+-- what is said of the meta in a slot
+abbrev pub meta_sentence : Slot → List ℕ → List ℕ
+meta_sentence slot words = codes "meta " ++ decimal (slot_number slot) ++ codes ": " ++ words
+
 -- the line of a slot without a valid meta
 abbrev pub slot_fault_text : Slot → MetaFault → List ℕ
-slot_fault_text slot fault = codes "meta " ++ (decimal (slot_number slot) ++ (codes ": " ++ meta_fault_text fault))
+slot_fault_text slot fault = line (meta_sentence slot (meta_fault_words fault))
 
 abbrev pub info_figures : Slot → Meta → List Named
 info_figures slot meta =

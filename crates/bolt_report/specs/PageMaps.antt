@@ -1,5 +1,5 @@
 -- The map of all pages of a file: docs/COMMANDS.md, "pages".
--- What is promised of it is promised for the roles of the pages; each page below the mark has exactly one.
+-- What is promised of the map is promised for the roles of the pages; each page below the mark has exactly one.
 use Rattle.std.specs.Prelude.{◌*◌, ◌-◌, ℕ, List, ◌++◌, codes, count_by, decimal, flat_map, length, map, min}
 use Rattle.std.specs.{Int.div_ceil, List.range_with_len}
 use Rattle.bolt_format.specs.declared.meta.Meta.{Meta}
@@ -25,7 +25,7 @@ map_line roles first count = line (column 8 (decimal first) ++ codes " " ++ map 
 abbrev pub line_at : (ℕ → Role) → (pages k : ℕ) → List ℕ
 line_at roles pages k = map_line roles (64 * k) (min 64 (pages - 64 * k))
 
--- as many lines as have a page
+-- the lines of the first `pages` pages, as many as have a page
 abbrev pub map_lines : (ℕ → Role) → (pages : ℕ) → List ℕ
 map_lines roles pages = flat_map (line_at roles pages) (range_with_len 0 (div_ceil pages 64))
 
@@ -34,7 +34,7 @@ abbrev pub map_text : List ℕ → Meta → (ℕ → Role) → List ℕ
 map_text file meta roles =
     map_lines roles (length (pages_in file meta)) ++ past_line (count_by (λ n. is_free (roles n)) (pages_past file meta))
 
--- ---- the same of a file that passed its tests
+-- ---- the map of a file that passed its tests
 
 abbrev pub map_of : Checked → (ℕ → Role) → List ℕ
 map_of checked roles = map_text (bytes_of checked) (meta_of checked) roles

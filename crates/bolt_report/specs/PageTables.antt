@@ -1,5 +1,5 @@
 -- The table of all pages of a file: docs/COMMANDS.md, "pages".
--- What is promised of it is promised for the roles of the pages; each page below the mark has exactly one.
+-- What is promised of the table is promised for the roles of the pages; each page below the mark has exactly one.
 use Rattle.std.specs.Prelude.{◌==◌, ◌-◌, ℕ, List, [], ◌++◌, Bool, true, false, Option, Some, None, codes, count_by, decimal, flat_map, if◌then◌else◌}
 use Rattle.std.specs.Prelude.{length, min}
 use Rattle.std.specs.{Int.div_ceil, List.range_with_len}
@@ -9,7 +9,7 @@ use Rattle.bolt_check.specs.{declared.role_table.Role.Role}
 use Rattle.bolt_check.specs.declared.role_table.Role.TheVariants as role
 use Rattle.bolt_text.specs.Lines.{column, line}
 
--- four columns with a space between them
+-- a row of the table: four columns with a space between them
 unfoldable pub row : (id kind items overflow : List ℕ) → List ℕ
 row id kind items overflow = line (column 8 id ++ codes " " ++ column 10 kind ++ codes " " ++ column 6 items ++ codes " " ++ column 6 overflow)
 
@@ -52,7 +52,7 @@ pages_in file meta = range_with_len 0 (min (begun file meta) meta.high_water)
 abbrev pub pages_past : List ℕ → Meta → List ℕ
 pages_past file meta = range_with_len (begun file meta) (meta.high_water - begun file meta)
 
--- no line if there are none
+-- the line with the number of free pages past the end of the file, or no line if there are none
 abbrev pub past_line : ℕ → List ℕ
 past_line count = if count == 0 then [] else decimal count ++ codes " free pages past the end of the file\n"
 
@@ -63,7 +63,7 @@ pages_text file meta roles =
     ++ (flat_map (λ n. page_row file meta n (roles n)) (pages_in file meta)
     ++ past_line (count_by (λ n. is_free (roles n)) (pages_past file meta)))
 
--- ---- the same of a file that passed its tests
+-- ---- the table of a file that passed its tests
 
 abbrev pub table_text : Checked → (ℕ → Role) → List ℕ
 table_text checked roles = pages_text (bytes_of checked) (meta_of checked) roles

@@ -10,7 +10,7 @@ columns r =
     decimal r.key.main ++ (codes " " ++ (decimal r.key.sub ++ (codes " " ++ (decimal r.content.version ++ (codes " " ++ (digits 16 false r.content.lease
     ++ (codes " " ++ (decimal (length r.content.value) ++ codes " "))))))))
 
--- the beginning of an object with the same
+-- the numbers of a revision as the beginning of an object, up to its name
 unfoldable pub members : RevisionView → List ℕ
 members r =
     codes "{\"revision\":" ++ (decimal r.key.main ++ (codes ",\"sub\":" ++ (decimal r.key.sub ++ (codes ",\"created\":" ++ (decimal r.content.created
@@ -44,6 +44,6 @@ begins prefix r = starts_with (λ a b. a == b) r.content.name prefix
 abbrev pub named_with : List ℕ → List RevisionView → List RevisionView
 named_with prefix rs = filter (begins prefix) rs
 
--- what one revision adds to the lines of these
+-- what one revision adds to the lines of those whose names begin with these bytes
 abbrev pub prefix_line : List ℕ → Form → (values : Bool) → RevisionView → List ℕ
 prefix_line prefix form values r = if begins prefix r then revision_line form values r else []

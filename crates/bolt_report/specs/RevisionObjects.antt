@@ -7,7 +7,7 @@ use Rattle.json.specs.Json.{Json, Members, document, member, no_members, number,
 use Rattle.bolt_text.specs.{Forms.json_text, JsonReadings.object_members, JsonReadings.named, JsonReadings.number_under, JsonReadings.string_of}
 use Rattle.bolt_etcd.specs.{Wire.Revisions.RevisionView, Wire.Fields.◌>>=◌}
 
--- by the JSON value of a name or a value: the value of a revision, if values are wanted
+-- the value of a revision as a member of an object, if values are wanted; the function writes it as JSON
 abbrev pub value_member : (List ℕ → Json) → (values : Bool) → RevisionView → Members
 value_member shown values r = if values then member (codes "value") (shown r.content.value) no_members else no_members
 
@@ -19,7 +19,7 @@ revision_json shown values r = object
     (member (codes "lease") (string (digits 16 false r.content.lease)) (member (codes "bytes") (number (decimal (length r.content.value)))
     (member (codes "name") (shown r.content.name) (value_member shown values r))))))))
 
--- what a reader finds; the value only if it is there
+-- what a reader finds of a revision; the value only if it is there
 pub record ReadRevision : Type 0 where
   pub revision : ℕ
   pub sub : ℕ
@@ -34,7 +34,7 @@ pub record ReadRevision : Type 0 where
 abbrev pub hex_number_of : Json → Option ℕ
 hex_number_of json = option_map (digits_value 16) (string_of json)
 
--- by what reads a name or a value
+-- `read` reads a name or a value
 module _ (read : Json → Option (List ℕ)) where
   abbrev pub value_if_there : Option Json → Option (Option (List ℕ))
   value_if_there None = Some None
@@ -66,7 +66,7 @@ pub record IsOfBytes (r : RevisionView) : Type 0 where
   pub name : IsBytes r.content.name
   pub value : IsBytes r.content.value
 
--- what is to be found of a revision
+-- what a reader is to find of a revision
 abbrev pub as_read : (values : Bool) → RevisionView → ReadRevision
 as_read values r = record {
   revision = r.key.main;
@@ -79,7 +79,7 @@ as_read values r = record {
   value = if values then Some r.content.value else None;
 }
 
--- revisions as JSON, with names and values that are written so, are read back by this
+-- revisions as JSON, with names and values as `write` writes them, are read back by `read`
 abbrev pub ReadsRevisionsBack : (read : Json → Option (List ℕ)) → (write : List ℕ → Json) → Type 0
 ReadsRevisionsBack read write = (values : Bool) (r : RevisionView) → IsOfBytes r
     → option_and_then (read_revision read) (document (json_text (revision_json write values r))) ≡ Some (as_read values r)

@@ -21,7 +21,7 @@ bytes_allocated stats = saturated (stats.branch_allocated + stats.leaf_allocated
 unfoldable pub size_columns : Stats → List ℕ
 size_columns stats = (decimal stats.keys ++ codes " ") ++ ((decimal (bytes_used stats) ++ codes " ") ++ (decimal (bytes_allocated stats) ++ codes " "))
 
--- the beginning of an object with the same
+-- the sizes of a bucket as the beginning of an object, up to its name
 abbrev pub size_members : Stats → List ℕ
 size_members stats =
     codes "{\"keys\":" ++ (decimal stats.keys

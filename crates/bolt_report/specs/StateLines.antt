@@ -26,7 +26,7 @@ keys_words values = codes ", " ++ (decimal values ++ codes " keys")
 abbrev pub figures_words : (losses : ℕ) → FiguresView → List ℕ
 figures_words losses f = counts_words losses f.buckets ++ (names_words f.buckets f.first f.last ++ keys_words f.values)
 
--- the meta of a slot, if it is valid and leads there
+-- the meta of a slot, if it is valid and leads to a place
 abbrev pub meta_words : Slot → Option Meta → PlaceView → List ℕ
 meta_words slot None place = []
 meta_words slot (Some meta) place =

@@ -4,7 +4,7 @@ use Rattle.bolt_stats.specs.declared.figures.Stats.{Stats}
 use Rattle.bolt_text.specs.declared.forms.FigureForm.{FigureForm}
 use Rattle.bolt_report.specs.FigureForms.{Named, figures_text}
 
--- the thirteen figures
+-- the thirteen figures of a bucket
 abbrev pub stats_figures : Stats → List Named
 stats_figures stats =
     (codes "buckets", Some stats.buckets)

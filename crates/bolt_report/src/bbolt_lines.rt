@@ -1,14 +1,12 @@
 //! The lines of what bbolt fails on.
 ghost use Rattle.std.specs.Prelude.{◌≡◌, ◌++◌, flat_map};
 ghost use Rattle.bolt_format.specs.{Endings.ending, Wrote.Wrote};
-ghost use Rattle.bolt_report.specs.BboltLines.{bbolt_findings_text, file_finding_text, meta_sentence};
-ghost use Rattle.bolt_text.specs.Lines.{line};
+ghost use Rattle.bolt_report.specs.BboltLines.{bbolt_findings_text, file_finding_text};
 
 use crate::fault_lines::{put_each_finding, put_error_count, put_of_pages};
-use crate::metas::slot_number;
+use crate::metas::{put_of_meta, slot_number};
 use bolt_check::{FileFinding, Finding};
-use bolt_format::{Sink, SinkFault, Slot};
-use bolt_text::{Piece, put_pieces};
+use bolt_format::{Sink, SinkFault};
 
 /// Writes the line of each finding of the file as a whole, that of each finding on its ways, and then
 /// the line with the number of errors, such as `2 errors found`.
@@ -55,20 +53,4 @@ fn put_file_finding<S: Sink>(finding: FileFinding, sink: &mut S) -> Result<(), S
             put_of_pages(first, last, b"past the end of the file", b"\n", sink)
         }
     }
-}
-
-/// Writes the line of the meta of a slot, with these words.
-fn put_of_meta<S: Sink>(slot: Slot, words: &[u8], sink: &mut S) -> Result<(), SinkFault>
-    ensures { Wrote S.Sink sink.old sink.new (line (meta_sentence slot words.now))
-        (ending result) }
-{
-    put_pieces(
-        &[
-            Piece::Field(b"meta ", slot_number(slot)),
-            Piece::Bytes(b": "),
-            Piece::Bytes(words),
-            Piece::Bytes(b"\n"),
-        ],
-        sink,
-    )
 }

@@ -1,8 +1,8 @@
 //! The lines of faults and findings.
 ghost use Rattle.std.specs.Prelude.{◌≡◌, ◌++◌, flat_map};
 ghost use Rattle.bolt_format.specs.{Endings.ending, Wrote.Wrote};
-ghost use Rattle.bolt_report.specs.FaultWords.{count_line, finding_sentence, finding_text, finding_words, meta_fault_text, page_fault_text};
-ghost use Rattle.bolt_report.specs.FaultWords.{page_fault_words, pages_sentence, snapshot_fault_text};
+ghost use Rattle.bolt_report.specs.FaultWords.{count_line, finding_sentence, finding_text, finding_words, meta_fault_text, meta_fault_words};
+ghost use Rattle.bolt_report.specs.FaultWords.{page_fault_text, page_fault_words, pages_sentence, snapshot_fault_text};
 
 use bolt_check::Finding;
 use bolt_etcd::SnapshotFault;
@@ -17,7 +17,10 @@ use bolt_text::{Piece, put, put_pieces};
 pub fn put_meta_fault<S: Sink>(fault: MetaFault, sink: &mut S) -> Result<(), SinkFault>
     ensures { Wrote S.Sink sink.old sink.new (meta_fault_text fault) (ending result) }
 {
-    put(meta_fault_line(fault), sink)
+    put_pieces(
+        &[Piece::Bytes(meta_fault_words(fault)), Piece::Bytes(b"\n")],
+        sink,
+    )
 }
 
 /// Writes the line of a snapshot's fault.
@@ -134,15 +137,15 @@ pub(crate) fn put_of_pages<'a, S: Sink>(
     }
 }
 
-pub(crate) fn meta_fault_line(fault: MetaFault) -> &'static [u8]
-    ensures { result.now ≡ meta_fault_text fault }
+pub(crate) fn meta_fault_words(fault: MetaFault) -> &'static [u8]
+    ensures { result.now ≡ meta_fault_words fault }
 {
     match fault {
-        MetaFault::Cut => b"file too short\n",
-        MetaFault::Magic => b"invalid database\n",
-        MetaFault::Version => b"version mismatch\n",
-        MetaFault::Sum => b"checksum error\n",
-        MetaFault::PageSize => b"page size refused\n",
+        MetaFault::Cut => b"file too short",
+        MetaFault::Magic => b"invalid database",
+        MetaFault::Version => b"version mismatch",
+        MetaFault::Sum => b"checksum error",
+        MetaFault::PageSize => b"page size refused",
     }
 }
 

@@ -1,14 +1,13 @@
 //! The map of all pages of a file.
-ghost use Rattle.std.specs.Prelude.{◌≡◌, ◌+◌, ◌-◌, ◌≤◌, ◌<◌, length, map, true};
+ghost use Rattle.std.specs.Prelude.{◌≡◌, ◌+◌, ◌-◌, ◌≤◌, map, true};
 ghost use Rattle.std.specs.List.{range_with_len};
 ghost use Rattle.bolt_format.specs.{Endings.ending, Wrote.Wrote};
-ghost use Rattle.bolt_check.specs.{CheckedFiles.bytes_of, CheckedFiles.has_accounts, CheckedFiles.meta_of, RoledFiles.roles_checked};
+ghost use Rattle.bolt_check.specs.{CheckedFiles.has_accounts, CheckedFiles.meta_of, RoledFiles.roles_checked};
 ghost use Rattle.bolt_report.specs.{PageMaps.lines_of, PageMaps.map_line, PageMaps.map_of, PageMaps.page_mark, PageTables.ForRoles};
-ghost use Rattle.bolt_report.specs.{PageTables.pages_in};
 
-use crate::page_table::{free_past, pages_begun, put_past};
+use crate::page_table::{free_past, page_count, put_past};
 use arrayvec::ArrayVec;
-use bolt_check::{Checked, Role, Roles};
+use bolt_check::{Role, Roles};
 use bolt_format::{Sink, SinkFault};
 use bolt_text::{Piece, put_pieces};
 
@@ -43,14 +42,6 @@ fn put_map_lines<S: Sink>(table: &Roles<'_>, sink: &mut S) -> Result<(), SinkFau
         put_line(table, first, first + LINE_PAGES.min(end - first), sink)?;
     }
     Ok(())
-}
-
-/// The number of pages in the file.
-fn page_count(checked: &Checked<'_>) -> u64
-    requires { 0 < (meta_of checked.now).page_size }
-    ensures { result ≡ length (pages_in (bytes_of checked.now) (meta_of checked.now)) }
-{
-    pages_begun(checked).min(checked.meta().high_water)
 }
 
 /// Writes the line of the pages from `first` to before `end`.

@@ -2,10 +2,10 @@
 ghost use Rattle.std.specs.Prelude.{◌≡◌, ◌++◌, codes};
 ghost use Rattle.bolt_format.specs.{Endings.ending, Wrote.Wrote};
 ghost use Rattle.bolt_report.specs.FigureForms.{named_line, number_or};
-ghost use Rattle.bolt_report.specs.MetaLines.{freelist_of, info_text, slot_fault_text, slot_number};
-ghost use Rattle.bolt_text.specs.Pieces.{piece_text};
+ghost use Rattle.bolt_report.specs.MetaLines.{freelist_of, info_text, meta_sentence, slot_fault_text, slot_number};
+ghost use Rattle.bolt_text.specs.{Lines.line, Pieces.piece_text};
 
-use crate::fault_lines::meta_fault_line;
+use crate::fault_lines::meta_fault_words;
 use bolt_format::{Meta, MetaFault, NO_FREELIST, Sink, SinkFault, Slot};
 use bolt_text::{FigureForm, Piece, put_pieces};
 
@@ -75,11 +75,20 @@ fn put_meta_json<S: Sink>(slot: Slot, meta: &Meta, sink: &mut S) -> Result<(), S
 pub fn put_slot_fault<S: Sink>(slot: Slot, fault: MetaFault, sink: &mut S) -> Result<(), SinkFault>
     ensures { Wrote S.Sink sink.old sink.new (slot_fault_text slot fault) (ending result) }
 {
+    put_of_meta(slot, meta_fault_words(fault), sink)
+}
+
+/// Writes the line of the meta in a slot, with these words.
+pub(crate) fn put_of_meta<S: Sink>(slot: Slot, words: &[u8], sink: &mut S) -> Result<(), SinkFault>
+    ensures { Wrote S.Sink sink.old sink.new (line (meta_sentence slot words.now))
+        (ending result) }
+{
     put_pieces(
         &[
             Piece::Field(b"meta ", slot_number(slot)),
             Piece::Bytes(b": "),
-            Piece::Bytes(meta_fault_line(fault)),
+            Piece::Bytes(words),
+            Piece::Bytes(b"\n"),
         ],
         sink,
     )

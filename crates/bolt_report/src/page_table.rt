@@ -2,8 +2,8 @@
 ghost use Rattle.std.specs.Prelude.{◌≡◌, ◌<◌, IfErr, IsSome, length, true, [], codes, decimal};
 ghost use Rattle.bolt_format.specs.{Endings.ending, Freelists.free_ids_at, Pages.page_at, Wrote.Wrote};
 ghost use Rattle.bolt_check.specs.{CheckedFiles.bytes_of, CheckedFiles.has_accounts, CheckedFiles.meta_of, RoledFiles.roles_checked, Roles.HasRole};
-ghost use Rattle.bolt_report.specs.PageTables.{ForRoles, begun, free_past, head_rows, items_row, overflow_text, page_row, past_line, row, table_rows};
-ghost use Rattle.bolt_report.specs.PageTables.{table_text};
+ghost use Rattle.bolt_report.specs.PageTables.{ForRoles, begun, free_past, head_rows, items_row, overflow_text, page_row, pages_in, past_line, row};
+ghost use Rattle.bolt_report.specs.PageTables.{table_rows, table_text};
 ghost use Rattle.bolt_text.specs.{ReportEndings.FailsByWriting, ReportEndings.report_ending, Lines.column, Pieces.piece_text};
 
 use bolt_check::{Checked, Role, Roles, roles};
@@ -46,8 +46,16 @@ pub fn put_page_table<S: Sink>(table: &Roles<'_>, sink: &mut S) -> Result<(), Si
     put_past(free_past(table), sink)
 }
 
+/// The number of pages that begin in the file below the high-water mark.
+pub(crate) fn page_count(checked: &Checked<'_>) -> u64
+    requires { 0 < (meta_of checked.now).page_size }
+    ensures { result ≡ length (pages_in (bytes_of checked.now) (meta_of checked.now)) }
+{
+    pages_begun(checked).min(checked.meta().high_water)
+}
+
 /// The number of pages that begin in the file.
-pub(crate) fn pages_begun(checked: &Checked<'_>) -> u64
+fn pages_begun(checked: &Checked<'_>) -> u64
     requires { 0 < (meta_of checked.now).page_size }
     ensures { result ≡ begun (bytes_of checked.now) (meta_of checked.now) }
 {
@@ -76,7 +84,7 @@ fn put_rows<S: Sink>(table: &Roles<'_>, sink: &mut S) -> Result<(), SinkFault>
         (ending result)) }
 {
     let checked = table.checked();
-    let end = pages_begun(&checked).min(checked.meta().high_water);
+    let end = page_count(&checked);
     for id in 0..end {
         put_row(&checked, id, table.role(id), sink)?;
     }

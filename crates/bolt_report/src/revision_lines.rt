@@ -4,8 +4,8 @@ ghost use Rattle.bolt_check.specs.{Keys.Key, Counts.counted};
 ghost use Rattle.bolt_format.specs.{Endings.ending, Wrote.Wrote};
 ghost use Rattle.bolt_text.specs.{ReportEndings.FailsByWriting, ReportEndings.FailsByWritingJson, ReportEndings.report_ending};
 ghost use Rattle.bolt_report.specs.RevisionLines.{columns, head, line_end, members, value_mark};
-ghost use Rattle.bolt_etcd.specs.{Wire.ShownRevisions.shown_decoded, Wire.ShownRevisions.shown_revision, Store.RevisionsLeft.pass_others};
-ghost use Rattle.bolt_etcd.specs.{Store.RevisionsLeft.ForAhead, Store.Stores.others, Store.Stores.revisions, Check.ForNames.ForCurrent};
+ghost use Rattle.bolt_etcd.specs.{Wire.ShownRevisions.shown_decoded, Wire.ShownRevisions.shown_revision, Store.RevisionsLeft.pass_unread};
+ghost use Rattle.bolt_etcd.specs.{Store.RevisionsLeft.ForAhead, Store.Stores.unread_elements, Store.Stores.revisions, Check.ForNames.ForCurrent};
 ghost use Rattle.bolt_tree.specs.EntriesLeft.{ForBucket};
 
 use bolt_etcd::{Current, DecodedRevision, Revision, Revisions};
@@ -203,15 +203,15 @@ impl RevisionWriter {
         ensures written { ForAhead pass.entry (λ rest.
             Wrote S.Sink sink.old sink.new (lines_by self.old prefix.now (revisions rest))
             (report_ending result)) }
-        ensures others { IfOk result (λ n.
+        ensures unread { IfOk result (λ n.
             ForAhead pass.entry (λ rest.
-            n ≡ counted (pass_others pass.entry) (length (others rest)))) }
+            n ≡ counted (pass_unread pass.entry) (length (unread_elements rest)))) }
         ensures fault { IfErr result (FailsByWritingJson self.old.items.form) }
     {
         'rest: while let Some(revision) = pass.next() {
             self.put_named(prefix, &revision, sink)?;
         }
-        Ok(pass.others())
+        Ok(pass.unread())
     }
 
     /// Writes the lines of the keys that there are in a bucket at a transaction and whose names begin
@@ -235,13 +235,13 @@ impl RevisionWriter {
         ensures written { ForCurrent bucket.now up_to (λ held.
             Wrote S.Sink sink.old sink.new (lines_by self.old prefix.now held)
             (report_ending result)) }
-        ensures others { IfOk result (λ n.
-            ForBucket bucket.now (λ entries. n ≡ counted 0 (length (others entries)))) }
+        ensures unread { IfOk result (λ n.
+            ForBucket bucket.now (λ entries. n ≡ counted 0 (length (unread_elements entries)))) }
         ensures fault { IfErr result FailsByWriting }
     {
         let current = Current::find(alloc, bucket, up_to)?;
         self.put_all(&current.revisions, prefix, sink)?;
-        Ok(current.others)
+        Ok(current.unread)
     }
 
     /// Writes the lines of those of these revisions whose names begin with `prefix`. The errors are

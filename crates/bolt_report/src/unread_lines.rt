@@ -13,12 +13,12 @@ use bolt_format::{Sink, SinkFault};
 ///
 /// `SinkFault` if the sink failed. It has then accepted a prefix of the text.
 #[tactic(auto, using(bolt_text::proofs::Exports::elements))]
-pub fn put_unread<S: Sink>(others: &[UnreadEntry<'_>], sink: &mut S) -> Result<(), SinkFault>
-    ensures { Wrote S.Sink sink.old sink.new (unread_text (map shown_unread others.now))
+pub fn put_unread<S: Sink>(entries: &[UnreadEntry<'_>], sink: &mut S) -> Result<(), SinkFault>
+    ensures { Wrote S.Sink sink.old sink.new (unread_text (map shown_unread entries.now))
         (ending result) }
 {
-    for other in others {
-        put_unread_entry(other, b"; not copied\n", sink)?;
+    for entry in entries {
+        put_unread_entry(entry, b"; not copied\n", sink)?;
     }
     Ok(())
 }

@@ -54,17 +54,24 @@ fn put_on(
     input: Input<'_>,
     text: &mut Text,
 ) -> Result<(), Fault> {
-    let Input { alloc, words, .. } = input;
-    match (verb, path) {
-        ("bucket", [key]) => pagers::bucket_cursor(checked, key, text),
-        ("walk" | "again" | "depths" | "listed", _) => {
-            walks::put_from(verb, alloc, checked, path, text)
+    match verb {
+        "walk" | "again" | "depths" | "listed" => {
+            walks::put_from(verb, input.alloc, checked, path, text)
         }
+        "bucket" => put_sought(checked, path, text),
         _ => {
             let bucket = buckets::bucket_at(checked, path)?;
-            buckets::put_bucket(verb, alloc, &bucket, words, text)
+            buckets::put_bucket(verb, input.alloc, &bucket, input.words, text)
         }
     }
+}
+
+/// The result of `bucket`, which seeks one key.
+fn put_sought(checked: Checked<'_>, path: &[&[u8]], text: &mut Text) -> Result<(), Fault> {
+    let [key] = path else {
+        return Err(Fault::UNREAD);
+    };
+    pagers::bucket_cursor(checked, key, text)
 }
 
 /// The transaction of the meta under which a file is checked, the number of its bytes, and whether the

@@ -137,7 +137,19 @@ fn print_text(rt: &HostRuntime, verb: &str, input: Input<'_>) -> Result<u8, Faul
     Ok(0)
 }
 
+/// The result of a verb that runs the program, or calls a part of it.
 fn put_result(verb: &str, input: Input<'_>, text: &mut Text) -> Result<(), Fault> {
+    match verb {
+        "names" => runs::names_of(input, text),
+        "fails" | "halts" => failures::fail(verb, input, text),
+        "deeds" => deeds::deeds_of(input, text),
+        "agree" => agreements::compared(input, text),
+        _ => put_call_result(verb, input, text),
+    }
+}
+
+/// The result of a verb that calls a library.
+fn put_call_result(verb: &str, input: Input<'_>, text: &mut Text) -> Result<(), Fault> {
     match verb {
         "loaded" => copies::loaded(input, text),
         "checked" => checks::checked(input, text),
@@ -147,10 +159,6 @@ fn put_result(verb: &str, input: Input<'_>, text: &mut Text) -> Result<(), Fault
             Ok(())
         }
         "puts" => sinks::puts(input, text),
-        "names" => runs::names_of(input, text),
-        "fails" | "halts" => failures::fail(verb, input, text),
-        "deeds" => deeds::deeds_of(input, text),
-        "agree" => agreements::compared(input, text),
         _ => checks::put_checked(verb, check(input.alloc, input.file)?, input, text),
     }
 }

@@ -39,20 +39,20 @@ pub record HasNoBucket (file : List ℕ) (choice : MetaChoice) (path : Path) (sa
       ⊎ IsUnread file choice said
 
 -- what is lost and found of a file under this choice
-pub record IsSearchOf (file : List ℕ) (choice : MetaChoice) (both : LostAndFound) : Type 0 where
-  pub under : IsMetaOf file choice both.meta
-  pub bytes : both.file.now ≡ file
-  pub lost : IsAllLost file both.meta (all_lost both)
-  pub found : AreFound file both.meta (found_numbers both.found.items)
-  pub views : All (IsFoundView file both.meta) both.found.items
+pub record IsSearchOf (file : List ℕ) (choice : MetaChoice) (searched : LostAndFound) : Type 0 where
+  pub under : IsMetaOf file choice searched.meta
+  pub bytes : searched.file.now ≡ file
+  pub lost : IsAllLost file searched.meta (all_lost searched)
+  pub found : AreFound file searched.meta (found_numbers searched.found.items)
+  pub views : All (IsFoundView file searched.meta) searched.found.items
 
 -- the members of both, of which none was returned yet
-pub record IsJoinedOf (both : LostAndFound) (joined : JoinedListing) : Type 0 where
-  pub file : joined_file joined ≡ both.file.now
-  pub meta : joined_meta joined ≡ both.meta
-  pub all : ForJoined both.file.now both.meta (λ listing. joined_left joined listing ≡ listing)
-  pub apart : both.found.items ≢ [] → ForRecovered both.file.now both.meta LacksBucketKey
-  pub some : (x : Finding) → all_lost both ≡ everything x → both.found.items ≢ []
+pub record IsJoinedOf (searched : LostAndFound) (joined : JoinedListing) : Type 0 where
+  pub file : joined_file joined ≡ searched.file.now
+  pub meta : joined_meta joined ≡ searched.meta
+  pub all : ForJoined searched.file.now searched.meta (λ listing. joined_left joined listing ≡ listing)
+  pub apart : searched.found.items ≢ [] → ForRecovered searched.file.now searched.meta LacksBucketKey
+  pub some : (x : Finding) → all_lost searched ≡ everything x → searched.found.items ≢ []
 
 -- a recovery of the file under this choice, of which no member was returned yet
 pub record IsRecoveryOf (file : List ℕ) (choice : MetaChoice) (recovery : Recovery) : Type 0 where
@@ -82,23 +82,23 @@ IsCheckOf file choice (Err fault) = IsRefusedUnder file choice fault
 abbrev pub IsOpened : Extent → List ℕ → MetaChoice → Contents → Type 0
 IsOpened extent file choice (contents.Sound checked) = (extent ≡ Sound) × IsSoundOf file choice checked
 IsOpened extent file choice (contents.Recovered recovery) = (extent ≡ Losses) × IsRecoveryOf file choice recovery
-IsOpened extent file choice (contents.Searched both) = (extent ≡ FoundPages) × IsSearchOf file choice both
+IsOpened extent file choice (contents.Searched searched) = (extent ≡ FoundPages) × IsSearchOf file choice searched
 
 abbrev pub contents_meta : Contents → Meta
 contents_meta (contents.Sound checked) = meta_of checked
 contents_meta (contents.Recovered recovery) = recovery_meta recovery
-contents_meta (contents.Searched both) = both.meta
+contents_meta (contents.Searched searched) = searched.meta
 
 -- what is known so far to be lost of the file, and to be found
 abbrev pub contents_lost : Contents → LostView
 contents_lost (contents.Sound checked) = parts []
 contents_lost (contents.Recovered recovery) = parts (recovery_losses recovery)
-contents_lost (contents.Searched both) = all_lost both
+contents_lost (contents.Searched searched) = all_lost searched
 
 abbrev pub contents_found : Contents → List FoundPage
 contents_found (contents.Sound checked) = []
 contents_found (contents.Recovered recovery) = []
-contents_found (contents.Searched both) = both.found.items
+contents_found (contents.Searched searched) = searched.found.items
 
 -- why a file isn't searched: it has no such meta, or memory ran out
 abbrev pub IsUnsearched : List ℕ → MetaChoice → Failure → Type 0

@@ -6,27 +6,15 @@ use Rattle.bolt_layout.specs.Copies.{layout_of_listing}
 use Rattle.bolt_recover.specs.{Losses.LostView, LostAndFound.all_lost, declared.lost_and_found.LostAndFound.LostAndFound}
 use Rattle.bolt_report.specs.FoundLines.{found_view}
 use Rattle.bolt_tree.specs.Listing.{Member}
-use Rattle.bolt_commands.specs.{Answers.JobEnding, CopyAnswers.copy_page_size, CopyEnds.EndsCopy, FilesRead.IsReadTo, FilesRead.IsSalvaged}
+use Rattle.bolt_commands.specs.{CopyAnswers.copy_page_size, CopyEnds.EndsCopy, FilesRead.IsReadTo, FilesRead.IsJoinedWith}
 use Rattle.bolt_commands.specs.{FilesRead.IsUnjoinedUnder, FilesRead.IsUnreadTo}
-use Rattle.bolt_commands.specs.{JobAnswers.Loads, JobAnswers.MakesCopy, CopyLayouts.layout_for, Failures.copied, GoodCopies.IsGoodCopy}
+use Rattle.bolt_commands.specs.{CopyLayouts.layout_for, Failures.copy_failure, GoodCopies.IsGoodCopy}
 use Rattle.bolt_commands.specs.{Private.Endings.failing}
 use Rattle.bolt_commands.specs.{Private.Contents.contents_found, Private.Contents.contents_lost, Private.Contents.contents_meta}
 use Rattle.bolt_commands.specs.{declared.failure.Failure.Failure}
 use Rattle.bolt_commands.specs.{declared.opening.Contents.Contents}
 use Rattle.bolt_job.specs.{declared.choices.CopyKind.CopyKind, declared.choices.PageSize.PageSize, CopyKinds.is_snapshot}
 use Rattle.bolt_job.specs.{declared.writing_commands.CompactJob.CompactJob}
-use Rattle.bolt_job.specs.declared.writing_commands.LoadJob.{LoadJob}
-
-module _ {O T : Type 0} (out : Ghosts O) (out_old out_new : O) (target : Ghosts T) (target_old target_new : T) where
-  abbrev pub CompactsTo : CompactJob → List ℕ → JobEnding → Type 0
-  CompactsTo job file ending =
-      MakesCopy out.taken out.failed out_old out_new target.taken target.failed target_old target_new file job.meta job.page_size job.kind
-      job.extent ending
-
-  abbrev pub LoadsJob : LoadJob → List ℕ → JobEnding → Type 0
-  LoadsJob job file ending =
-      Loads out.taken out.failed out_old out_new target.taken target.failed target_old target_new file job.page_size.bytes job.sequence job.kind
-      ending
 
 -- the blueprint of a copy of this kind and this page size, if one is asked for, and if the file has this meta
 pub record IsAskedBlueprint (kind : CopyKind) (size : Option PageSize) (meta : Meta) (blueprint : Blueprint) : Type 0 where
@@ -49,7 +37,7 @@ IsLayoutOf {W} reads listing members blueprint layout = (whole : W) × reads mem
 -- the target accepted the whole copy of the listing with this layout, and it is good; or it stopped short, and the fault says why
 pub record CopiesTo {T : Type 0} (target : Ghosts T) (old new : T) (layout : List ℕ) (listing : List Member) (snapshot : Bool)
     (result : Result ℕ BulkFault) : Type 0 where
-  pub ends : EndsCopy target.taken target.failed old new layout snapshot result
+  pub ends : EndsCopy target old new layout snapshot result
   pub good : OnOk result ∥ IsGoodCopy snapshot layout listing ∥₁
 
 -- the layout that is asked for of a listing, if the file has this meta
@@ -60,19 +48,19 @@ job_layout job meta listing = layout_of_listing (layout_for job.kind) (copy_page
 abbrev pub CopiesListing : {T : Type 0} (target : Ghosts T) (old new : T) (layout : List ℕ) → (listing : List Member) → (snapshot : Bool)
     → Result ℕ Failure → Type 0
 CopiesListing target old new layout listing snapshot result =
-    (made : Result ℕ BulkFault) × CopiesTo target old new layout listing snapshot made × (result ≡ failing copied made)
+    (made : Result ℕ BulkFault) × CopiesTo target old new layout listing snapshot made × (result ≡ failing copy_failure made)
 
 -- The copy of what is read was made; if it is whole, all that is lost is known then. Or it isn't read, and the target isn't touched.
 abbrev pub CopiesRead : {T : Type 0} (target : Ghosts T) (old new : T) → CompactJob → List ℕ → (before after : Contents) → Result ℕ Failure → Type 0
 CopiesRead target old new job file before after result =
-    ((listing : List Member) × (lost : LostView) × IsReadTo job.extent file job.meta (contents_meta before) listing lost (map found_view (contents_found before))
-    × OnOk result (contents_lost after ≡ lost)
+    ((listing : List Member) × (lost : LostView)
+    × IsReadTo job.extent file job.meta (contents_meta before) listing lost (map found_view (contents_found before)) × OnOk result (contents_lost after ≡ lost)
     × CopiesListing target old new (job_layout job (contents_meta before) listing) listing (is_snapshot job.kind) result)
     ⊎ ((why : Failure) × IsUnreadTo job.extent file job.meta why × (new ≡ old) × (result ≡ Err why))
 
 -- The copy of a searched file was made by a blueprint. Or the file isn't read, and the target isn't touched.
 abbrev pub CopiesJoined : {T : Type 0} (target : Ghosts T) (old new : T) → CompactJob → List ℕ → LostAndFound → Blueprint → Result ℕ Failure → Type 0
-CopiesJoined target old new job file both blueprint result =
-    ((listing : List Member) × IsSalvaged file both.meta listing (all_lost both) (map found_view both.found.items)
+CopiesJoined target old new job file searched blueprint result =
+    ((listing : List Member) × IsJoinedWith file searched.meta listing (all_lost searched) (map found_view searched.found.items)
     × CopiesListing target old new (blueprint_layout blueprint listing) listing (is_snapshot job.kind) result)
     ⊎ ((why : Failure) × IsUnjoinedUnder file job.meta why × (new ≡ old) × (result ≡ Err why))

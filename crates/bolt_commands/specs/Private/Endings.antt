@@ -2,16 +2,16 @@
 use Rattle.std.specs.Prelude.{IfErr, Result, Ok, Err}
 use Rattle.bolt_format.specs.declared.sink.SinkFault.{SinkFault}
 use Rattle.bolt_text.specs.{ReportEndings.FailsByWriting, declared.report_fault.ReportFault.ReportFault}
-use Rattle.bolt_commands.specs.{Answers.JobEnding, Failures.reported, declared.failure.Failure.Failure, declared.failure.Failure.TheVariants.Write}
+use Rattle.bolt_commands.specs.{Answers.JobEnding, Failures.report_failure, declared.failure.Failure.Failure, declared.failure.Failure.TheVariants.Write}
 
-abbrev pub ending_by : {A : Type 0} → Result A ReportFault → (wanted : JobEnding) → JobEnding
-ending_by (Ok x) wanted = wanted
-ending_by (Err fault) wanted = Err (reported fault)
+abbrev pub end_report : {A : Type 0} → Result A ReportFault → (wanted : JobEnding) → JobEnding
+end_report (Ok x) wanted = wanted
+end_report (Err fault) wanted = Err (report_failure fault)
 
 -- a text that needs no memory
-abbrev pub end_written : {A : Type 0} → Result A SinkFault → (wanted : JobEnding) → JobEnding
-end_written (Ok x) wanted = wanted
-end_written (Err fault) wanted = Err Write
+abbrev pub end_write : {A : Type 0} → Result A SinkFault → (wanted : JobEnding) → JobEnding
+end_write (Ok x) wanted = wanted
+end_write (Err fault) wanted = Err Write
 
 -- a result with its fault as a failure
 abbrev pub failing : {A E : Type 0} → (E → Failure) → Result A E → Result A Failure

@@ -6,7 +6,7 @@ use Rattle.bolt_text.specs.declared.report_fault.ReportFault.{ReportFault}
 use Rattle.bolt_tree.specs.{BucketViews.entries_of, Buckets.bucket_checked, Buckets.bucket_start, Entries.IsEntry, Entries.Root_page}
 use Rattle.bolt_tree.specs.{Lookups.IsBucketAt}
 use Rattle.bolt_job.specs.declared.choices.MetaChoice.{MetaChoice}
-use Rattle.bolt_commands.specs.{Answers.JobEnding, EtcdAnswers.others_ending, Failures.reported, FilesRead.IsReadUnder, Private.Contents.IsUnread}
+use Rattle.bolt_commands.specs.{Answers.JobEnding, EtcdAnswers.end_unread, Failures.report_failure, FilesRead.IsReadUnder, Private.Contents.IsUnread}
 use Rattle.bolt_commands.specs.declared.{etcd_store.Store.Store, failure.Failure.Failure}
 use Rattle.bolt_commands.specs.declared.failure.Failure.TheVariants as failure
 use Rattle.bolt_etcd.specs.Store.BucketNames.{key_bucket}
@@ -26,6 +26,6 @@ IsUnreadStore file choice why =
     ⊎ IsUnread file choice why
 
 -- how a job ends that wrote revisions
-abbrev pub end_of_revisions : Result ℕ ReportFault → JobEnding
-end_of_revisions (Ok others) = others_ending others
-end_of_revisions (Err fault) = Err (reported fault)
+abbrev pub end_revisions : Result ℕ ReportFault → JobEnding
+end_revisions (Ok unread) = end_unread unread
+end_revisions (Err fault) = Err (report_failure fault)

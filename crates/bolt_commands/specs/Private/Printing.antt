@@ -5,9 +5,9 @@ use Rattle.bolt_recover.specs.{Losses.LostView, LostAndFound.all_lost, declared.
 use Rattle.bolt_report.specs.FoundLines.{FoundView, found_view}
 use Rattle.bolt_text.specs.{ListForms.listing_lines, ReportEndings.report_ending, declared.report_fault.ReportFault.ReportFault}
 use Rattle.bolt_tree.specs.{Listing.Member, Listing.rest_from, ListingParts.has_bucket, ListingParts.part_below}
-use Rattle.bolt_commands.specs.{Answers.Answer, Answers.JobEnding, Answers.WritesAnswer, FilesRead.IsReadTo, FilesRead.IsSalvaged}
+use Rattle.bolt_commands.specs.{Answers.Answer, Answers.JobEnding, Answers.WritesAnswer, FilesRead.IsReadTo, FilesRead.IsJoinedWith}
 use Rattle.bolt_commands.specs.{FilesRead.IsUnjoinedUnder, FilesRead.IsUnreadTo, ListAnswers.listing_part_text}
-use Rattle.bolt_commands.specs.{Failures.reported, Private.Endings.MayFail, Private.Endings.failing, Private.Contents.contents_lost}
+use Rattle.bolt_commands.specs.{Failures.report_failure, Private.Endings.MayFail, Private.Endings.failing, Private.Contents.contents_lost}
 use Rattle.bolt_commands.specs.declared.{failure.Failure.Failure, opening.Contents.Contents}
 use Rattle.bolt_job.specs.{PlainWords.owned_path, declared.bucket_commands.ListJob.ListJob}
 
@@ -15,7 +15,7 @@ use Rattle.bolt_job.specs.{PlainWords.owned_path, declared.bucket_commands.ListJ
 pub record PrintsAnswer {S : Type 0} (sink : Ghosts S) (old new : S) (IsWanted : Answer → Type 0) (ending : JobEnding) : Type 0 where
   pub answer : Answer
   pub is : IsWanted answer
-  pub does : WritesAnswer sink.taken sink.failed old new answer ending
+  pub does : WritesAnswer sink old new answer ending
 
 -- ---- the texts of it
 
@@ -36,7 +36,7 @@ module _ {S : Type 0} (sink : Ghosts S) (old new : S) (job : ListJob) where
   abbrev pub PutsListing : Result Bool Failure → List Member → Type 0
   PutsListing result listing =
       (put : Result Bool ReportFault) × Wrote sink old new (job_part job listing) (report_ending put) × MayFail put
-      × IfOk put (λ found. found ≡ finds job listing) × (result ≡ failing reported put)
+      × IfOk put (λ found. found ≡ finds job listing) × (result ≡ failing report_failure put)
 
   -- The part of what was read is put; if it is whole, all that is lost is known then. Or the file isn't read, and nothing is put.
   abbrev pub PutsPart : List ℕ → (after : Contents) → Result Bool Failure → Type 0
@@ -47,6 +47,6 @@ module _ {S : Type 0} (sink : Ghosts S) (old new : S) (job : ListJob) where
 
   -- The part of a searched file's listing is put. Or the file isn't read, and nothing is put.
   abbrev pub PutsJoined : List ℕ → LostAndFound → Result Bool Failure → Type 0
-  PutsJoined file both result =
-      ((listing : List Member) × IsSalvaged file both.meta listing (all_lost both) (map found_view both.found.items) × PutsListing result listing)
+  PutsJoined file searched result =
+      ((listing : List Member) × IsJoinedWith file searched.meta listing (all_lost searched) (map found_view searched.found.items) × PutsListing result listing)
       ⊎ ((why : Failure) × IsUnjoinedUnder file job.meta why × (new ≡ old) × (result ≡ Err why))

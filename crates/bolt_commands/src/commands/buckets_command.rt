@@ -3,7 +3,7 @@ ghost use Rattle.std.specs.Prelude.{false};
 ghost use Rattle.bolt_commands.specs.{KeyAnswers.IsBucketsPrint, KeyAnswers.IsBucketsShown, Private.Printing.PrintsAnswer};
 ghost use Rattle.bolt_job.specs.declared.choices.BucketsShown.TheVariants as shown;
 
-use crate::failure::{Outcome, ended};
+use crate::failure::{Outcome, end_report};
 use crate::opening::Input;
 use crate::recovered_names::{RecoveredNames, name_recovered};
 use bolt_format::Sink;
@@ -36,7 +36,7 @@ fn put_bucket_names<O: Sink>(input: Input<'_>, job: &BucketsJob, out: &mut O) ->
         (IsBucketsShown (shown.Names false) input.entry.file.now job.now.meta job.now) result }
 {
     let bucket = input.bucket(job.meta, job.path.as_slice())?;
-    ended(buckets(input.alloc, &bucket, job.form, out))
+    end_report(buckets(input.alloc, &bucket, job.form, out))
 }
 
 /// Writes their sizes and names.
@@ -45,5 +45,5 @@ fn put_sizes_asked<O: Sink>(input: Input<'_>, job: &BucketsJob, out: &mut O) -> 
         (IsBucketsShown shown.Sizes input.entry.file.now job.now.meta job.now) result }
 {
     let bucket = input.bucket(job.meta, job.path.as_slice())?;
-    ended(put_sizes(input.alloc, &bucket, job.form, out))
+    end_report(put_sizes(input.alloc, &bucket, job.form, out))
 }

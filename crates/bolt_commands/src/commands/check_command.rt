@@ -88,7 +88,7 @@ fn find_in_file(
 
 /// Writes `OK`, or what bbolt fails on.
 fn put_all<O: Sink>(found: &ForBbolt, out: &mut O) -> Outcome
-    ensures { WritesAnswer O.taken O.failed out.old out.new
+    ensures { WritesAnswer O.Sink out.old out.new
         (bbolt_answer no_faults [] found.now.of_file.items found.now.on_ways.items) result }
 {
     if !found.of_file.is_empty() || !found.on_ways.is_empty() {

@@ -1,7 +1,8 @@
 //! The command `compact`: a copy of what a file holds, or of what is left of a damaged one.
 ghost use Rattle.std.specs.Prelude.{◌≡◌};
-ghost use Rattle.bolt_commands.specs.{Private.Copying.CompactsTo, Private.Copying.CopiesJoined, Private.Copying.CopiesRead, Private.Contents.IsOpened};
+ghost use Rattle.bolt_commands.specs.{JobAnswers.DoesJob, Private.Copying.CopiesJoined, Private.Copying.CopiesRead, Private.Contents.IsOpened};
 ghost use Rattle.bolt_commands.specs.{Private.Contents.IsSearchOf, Private.Contents.contents_found, CopyAnswers.hash_refusal};
+ghost use Rattle.bolt_job.specs.declared.job.Job.TheVariants.{Compact};
 
 use crate::copies::{CopyReport, blueprint_of, copy_members, end_copy};
 use crate::failure::{Failure, Outcome};
@@ -24,7 +25,8 @@ pub(crate) fn do_compact<O: Sink, T: Sink>(
     out: &mut O,
     target: &mut T,
 ) -> Outcome
-    ensures { CompactsTo O.Sink out.old out.new T.Sink target.old target.new job.now input.entry.file.now result }
+    ensures { DoesJob O.Sink out.old out.new T.Sink target.old target.new
+        input.entry.file.now (Compact job.now) result }
 {
     each_file_has_found_pages();
     let mut contents = input.open(job.meta, job.extent)?;

@@ -1,9 +1,9 @@
 //! The command `etcd-get`.
 ghost use Rattle.std.specs.Prelude.{◌≡◌};
-ghost use Rattle.bolt_commands.specs.{EtcdAnswers.IsEtcdGetPrint, EtcdAnswers.others_ending, EtcdAnswers.up_to, Private.Endings.ending_by};
+ghost use Rattle.bolt_commands.specs.{EtcdAnswers.IsEtcdGetPrint, EtcdAnswers.end_unread, EtcdAnswers.up_to, Private.Endings.end_report};
 ghost use Rattle.bolt_commands.specs.{Private.Printing.PrintsAnswer};
 
-use crate::etcd_store::{end_others, read_store, refuse_compacted, up_to};
+use crate::etcd_store::{end_unread, read_store, refuse_compacted, up_to};
 use crate::failure::{Failure, Outcome};
 use crate::opening::Input;
 use crate::value_text::put_value;
@@ -25,14 +25,14 @@ pub(crate) fn do_etcd_get<O: Sink>(input: Input<'_>, job: &EtcdGetJob, out: &mut
     };
     end_value(
         put_value(input.alloc, value, job.form, job.no_newline, out),
-        newest.others,
+        newest.unread,
     )
 }
 
 /// How a job ends that wrote a value.
-fn end_value(put: Result<(), ReportFault>, others: u64) -> Outcome
-    ensures { result ≡ ending_by put (others_ending others) }
+fn end_value(put: Result<(), ReportFault>, unread: u64) -> Outcome
+    ensures { result ≡ end_report put (end_unread unread) }
 {
     put?;
-    end_others(others)
+    end_unread(unread)
 }

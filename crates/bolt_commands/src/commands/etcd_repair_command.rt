@@ -1,6 +1,6 @@
 //! The command `etcd-repair`: a copy in which the revisions that are found are back in their bucket.
-ghost use Rattle.bolt_commands.specs.{Private.Repairing.CopiesRepaired, Private.Repairing.RepairsTo};
-ghost use Rattle.bolt_job.specs.CopyKinds.{is_snapshot};
+ghost use Rattle.bolt_commands.specs.{JobAnswers.DoesJob, Private.Repairing.CopiesRepaired};
+ghost use Rattle.bolt_job.specs.{CopyKinds.is_snapshot, declared.job.Job.TheVariants.EtcdRepair};
 
 use crate::copies::{CopyReport, blueprint_of, copy_members, end_copy};
 use crate::failure::{Failure, Outcome};
@@ -22,8 +22,8 @@ pub(crate) fn do_etcd_repair<O: Sink, T: Sink>(
     out: &mut O,
     target: &mut T,
 ) -> Outcome
-    ensures { RepairsTo O.Sink out.old out.new T.Sink target.old target.new job.now
-        input.entry.file.now result }
+    ensures { DoesJob O.Sink out.old out.new T.Sink target.old target.new
+        input.entry.file.now (EtcdRepair job.now) result }
 {
     let searched = input.search(job.meta)?;
     let repair = Repair::find(input.alloc, &searched, job.search)?;

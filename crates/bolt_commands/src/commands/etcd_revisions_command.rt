@@ -1,6 +1,6 @@
 //! The command `etcd-revisions`.
 ghost use Rattle.std.specs.Prelude.{◌≡◌};
-ghost use Rattle.bolt_etcd.specs.Store.RevisionsLeft.{ForPass, ahead_of, pass_checked, pass_others, pass_start};
+ghost use Rattle.bolt_etcd.specs.Store.RevisionsLeft.{ForPass, ahead_of, pass_checked, pass_unread, pass_start};
 ghost use Rattle.bolt_tree.specs.Buckets.{bucket_checked, bucket_start};
 ghost use Rattle.bolt_commands.specs.{EtcdAnswers.IsEtcdRevisionsPrint, EtcdAnswers.entries_asked, Private.Printing.PrintsAnswer};
 
@@ -34,7 +34,7 @@ fn pass_from<'a>(keys: &Bucket<'a>, from: Option<u64>) -> Revisions<'a>
     ensures start { pass_start result ≡ bucket_start keys.now }
     ensures asked { ForPass result (λ entries.
         ahead_of result entries ≡ entries_asked from entries) }
-    ensures others { pass_others result ≡ 0 }
+    ensures unread { pass_unread result ≡ 0 }
 {
     match from {
         Some(main) => Revisions::from(keys, main),

@@ -7,7 +7,7 @@ ghost use Rattle.bolt_commands.specs.{Private.Printing.PrintsAnswer, KeyAnswers.
 ghost use Rattle.bolt_commands.specs.{KeyAnswers.no_key, Private.Recovered.value_or_why};
 ghost use Rattle.bolt_job.specs.PlainWords.{owned_path};
 
-use crate::failure::{Failure, Outcome, end_listing, ended};
+use crate::failure::{Failure, Outcome, end_listing, end_report};
 use crate::file_faults::metas_fault;
 use crate::opening::{Input, open_bucket};
 use crate::recovered_names::no_bucket;
@@ -37,7 +37,7 @@ fn get_sound<O: Sink>(input: Input<'_>, job: &GetJob, out: &mut O) -> Outcome
 {
     let checked = input.read(job.meta)?;
     let value = find_value(checked, job.path.as_slice())?;
-    ended(put_value(input.alloc, value, job.form, job.no_newline, out))
+    end_report(put_value(input.alloc, value, job.form, job.no_newline, out))
 }
 
 /// The value at a path. The last part is its key.

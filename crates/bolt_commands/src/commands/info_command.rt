@@ -2,7 +2,7 @@
 ghost use Rattle.std.specs.Prelude.{IfErr, IfOk};
 ghost use Rattle.bolt_commands.specs.{PageAnswers.HasNoMeta, PageAnswers.IsInfoAnswer, PageAnswers.IsShownMeta, Private.Printing.PrintsAnswer};
 
-use crate::failure::{Outcome, written};
+use crate::failure::{Outcome, end_write};
 use crate::opening::Input;
 use bolt_format::{Meta, MetaFault, Sink, Slot, choose, slot_meta};
 use bolt_job::InfoJob;
@@ -14,7 +14,7 @@ pub(crate) fn do_info<O: Sink>(input: Input<'_>, job: &InfoJob, out: &mut O) -> 
         (IsInfoAnswer input.entry.file.now job.now.slot job.now.form) result }
 {
     let (slot, meta) = find_meta(input.file, job.slot)?;
-    written(info(slot, &meta, job.form, out))
+    end_write(info(slot, &meta, job.form, out))
 }
 
 fn find_meta(file: &[u8], slot: Option<Slot>) -> Result<(Slot, Meta), MetaFault>

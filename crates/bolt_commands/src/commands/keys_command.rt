@@ -2,7 +2,7 @@
 ghost use Rattle.std.specs.Prelude.{false};
 ghost use Rattle.bolt_commands.specs.{KeyAnswers.IsKeysPrint, KeyAnswers.IsKeysShown, Private.Printing.PrintsAnswer};
 
-use crate::failure::{Outcome, ended};
+use crate::failure::{Outcome, end_report};
 use crate::opening::Input;
 use crate::recovered_names::{RecoveredNames, name_recovered};
 use bolt_format::Sink;
@@ -35,5 +35,5 @@ fn put_keys_asked<O: Sink>(input: Input<'_>, job: &KeysJob, out: &mut O) -> Outc
     let bucket = input.bucket(job.meta, job.path.as_slice())?;
     let mut cursor = bucket.cursor();
     let prefix = job.prefix.as_slice();
-    ended(put_keys_with_prefix(input.alloc, &mut cursor, prefix, job.form, out))
+    end_report(put_keys_with_prefix(input.alloc, &mut cursor, prefix, job.form, out))
 }

@@ -1,5 +1,6 @@
 //! The command `load`: a database of the listing that lines tell.
-ghost use Rattle.bolt_commands.specs.Private.Copying.{LoadsJob};
+ghost use Rattle.bolt_commands.specs.JobAnswers.{DoesJob};
+ghost use Rattle.bolt_job.specs.declared.job.Job.TheVariants.{Load};
 
 use crate::copies::{CopyReport, copy_members, end_copy, layout};
 use crate::failure::Outcome;
@@ -19,7 +20,8 @@ pub(crate) fn do_load<O: Sink, T: Sink>(
     out: &mut O,
     target: &mut T,
 ) -> Outcome
-    ensures { LoadsJob O.Sink out.old out.new T.Sink target.old target.new job.now input.entry.file.now result }
+    ensures { DoesJob O.Sink out.old out.new T.Sink target.old target.new
+        input.entry.file.now (Load job.now) result }
 {
     let listing = ListingText::read(input.alloc, input.file)?;
     let mut members = listing.members(input.alloc);

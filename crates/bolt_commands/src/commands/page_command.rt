@@ -1,7 +1,7 @@
 //! The command `page`.
 ghost use Rattle.bolt_commands.specs.{PageAnswers.IsPageAnswer, Private.Printing.PrintsAnswer};
 
-use crate::failure::{Outcome, ended};
+use crate::failure::{Outcome, end_report};
 use crate::opening::Input;
 use bolt_format::Sink;
 use bolt_job::PageJob;
@@ -13,5 +13,5 @@ pub(crate) fn do_page<O: Sink>(input: Input<'_>, job: &PageJob, out: &mut O) -> 
         (IsPageAnswer input.entry.file.now job.now.meta job.now.id) result }
 {
     let meta = job.meta.find(input.file)?;
-    ended(page_text(input.file, &meta, job.id, out))
+    end_report(page_text(input.file, &meta, job.id, out))
 }

@@ -6,7 +6,7 @@ ghost use Rattle.bolt_report.specs.PageTables.{ForRoles};
 ghost use Rattle.bolt_commands.specs.{FilesRead.IsReadAnswer, PageAnswers.IsPagesAnswer, PageAnswers.pages_shown, Private.Printing.PrintsAnswer};
 ghost use Rattle.bolt_job.specs.declared.choices.MetaChoice.TheVariants.{Active};
 
-use crate::failure::{Outcome, written};
+use crate::failure::{Outcome, end_write};
 use crate::opening::Input;
 use bolt_check::{Roles, check_roles};
 use bolt_format::{Sink, SinkFault};
@@ -20,7 +20,7 @@ pub(crate) fn do_pages<O: Sink>(input: Input<'_>, job: &PagesJob, out: &mut O) -
         (IsPagesAnswer input.entry.file.now job.now.map)) result }
 {
     let roles = check_roles(input.alloc, input.file)?;
-    written(put_pages_asked(&roles, job.map, out))
+    end_write(put_pages_asked(&roles, job.map, out))
 }
 
 fn put_pages_asked<O: Sink>(roles: &Roles<'_>, map: bool, out: &mut O) -> Result<(), SinkFault>

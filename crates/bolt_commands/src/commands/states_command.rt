@@ -4,7 +4,7 @@ ghost use Rattle.bolt_commands.specs.{Answers.WritesAnswer, Private.Printing.Pri
 ghost use Rattle.bolt_commands.specs.{StatesAnswers.states_answer};
 ghost use Rattle.bolt_recover.specs.ShownStates.{place_view, state_view};
 
-use crate::failure::{Failure, Outcome, written};
+use crate::failure::{Failure, Outcome, end_write};
 use crate::opening::Input;
 use bolt_format::{Sink, choose};
 use bolt_job::{PageSize, StatesJob};
@@ -34,11 +34,11 @@ fn tried_size(file: &[u8], asked: Option<PageSize>) -> u32
 }
 
 fn put_found_states<O: Sink>(states: &States<'_>, out: &mut O) -> Outcome
-    ensures { WritesAnswer O.taken O.failed out.old out.new (states_answer states.now.metas
+    ensures { WritesAnswer O.Sink out.old out.new (states_answer states.now.metas
         (map state_view states.now.kept.items) (map place_view states.now.lost.items)) result }
 {
     if states.kept.is_empty() && states.lost.is_empty() {
         return Err(Failure::NoState);
     }
-    written(put_states(states, out))
+    end_write(put_states(states, out))
 }

@@ -7,7 +7,7 @@ ghost use Rattle.bolt_commands.specs.{StatsAnswers.no_stats, Private.Printing.Pr
 ghost use Rattle.bolt_commands.specs.{declared.failure.Failure.TheVariants.NoBucket};
 ghost use Rattle.bolt_job.specs.PlainWords.{owned_path};
 
-use crate::failure::{Failure, Outcome, written};
+use crate::failure::{Failure, Outcome, end_write};
 use crate::opening::{Input, open_bucket};
 use bolt_check::{Checked, NoMemory};
 use bolt_format::Sink;
@@ -24,7 +24,7 @@ pub(crate) fn do_stats<O: Sink>(input: Input<'_>, job: &StatsJob, out: &mut O) -
 {
     let checked = input.read(job.meta)?;
     let stats = find_stats(input.alloc, checked, job.path.as_slice())?;
-    written(stats_text(&stats, job.form, out))
+    end_write(stats_text(&stats, job.form, out))
 }
 
 /// The figures of the bucket at a path.

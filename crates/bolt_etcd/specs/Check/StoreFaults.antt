@@ -4,9 +4,9 @@ use Rattle.std.specs.Option.{option_map}
 use Rattle.bolt_format.specs.Elements.{LeafElement}
 use Rattle.bolt_check.specs.Keys.{Key}
 use Rattle.bolt_etcd.specs.{Check.CheckLines.name_fault_lines, Check.CheckLines.misplaced_line, Check.CheckLines.missing_line}
-use Rattle.bolt_etcd.specs.{Check.CheckLines.other_line, Store.Compacted.compacted_in}
+use Rattle.bolt_etcd.specs.{Check.CheckLines.unread_entry_line, Store.Compacted.compacted_in}
 use Rattle.bolt_etcd.specs.{Check.Misplaced.misplaced, Check.MissingNumbers.missing_numbers, Check.NameFaults.has_lease, Check.NameFaults.name_faults}
-use Rattle.bolt_etcd.specs.{Wire.Numbered.numbered, Wire.UnreadEntries.others_of, Wire.Revisions.RevisionView, Store.StoreBuckets.StoreView}
+use Rattle.bolt_etcd.specs.{Wire.Numbered.numbered, Wire.UnreadEntries.unread_entries, Wire.Revisions.RevisionView, Store.StoreBuckets.StoreView}
 use Rattle.bolt_etcd.specs.{Store.Stores.revisions}
 use Rattle.bolt_etcd.specs.declared.check.missing.Missing.{Missing}
 use Rattle.bolt_etcd.specs.Store.BucketNames.{bucket_names, key_bucket, lease_bucket, meta_bucket}
@@ -28,13 +28,13 @@ missing_if None rs = []
 missing_if (Some compacted) rs = missing_numbers compacted rs
 
 -- the lines of the entries of the bucket `key` that are neither revisions nor marks
-abbrev pub other_lines : List LeafElement → List (List ℕ)
-other_lines entries = map other_line (others_of entries)
+abbrev pub unread_entry_lines : List LeafElement → List (List ℕ)
+unread_entry_lines entries = map unread_entry_line (unread_entries entries)
 
 -- the lines of the entries of the bucket `key`, one after another
 abbrev pub entry_lines : Option ℕ → List LeafElement → List (List ℕ)
 entry_lines compacted entries =
-    other_lines entries ++ (map misplaced_line (misplaced (revisions entries)) ++ map missing_line (missing_if compacted (numbered entries)))
+    unread_entry_lines entries ++ (map misplaced_line (misplaced (revisions entries)) ++ map missing_line (missing_if compacted (numbered entries)))
 
 -- the lines of the revisions of the bucket `key`, name by name
 abbrev pub name_lines : Option ℕ → (ℕ → Bool) → List RevisionView → List (List ℕ)
@@ -52,7 +52,7 @@ granted_in (Some entries) lease = has_lease entries lease
 abbrev pub store_granted : StoreView → ℕ → Bool
 store_granted store = granted_in (store.bucket lease_bucket)
 
--- without the bucket `key` nothing else is looked at
+-- the lines of the bucket `key` and of its names; without it nothing else is looked at
 abbrev pub key_lines : StoreView → Option (List LeafElement) → List (List ℕ)
 key_lines store None = []
 key_lines store (Some entries) = entry_lines (store_compacted store) entries ++ name_lines (store_compacted store) (store_granted store) store.by_name

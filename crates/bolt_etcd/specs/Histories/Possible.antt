@@ -13,7 +13,7 @@ abbrev pub CanWriteAll : State → (main sub : ℕ) → List Write → Type 0
 CanWriteAll state main sub [] = Unit {0}
 CanWriteAll state main sub (w ∷ ws) = CanWrite state w × CanWriteAll (after (revision_by state main sub w) state) main (sub + 1) ws
 
--- a transaction without writes gets no number, so none is empty
+-- etcd can do these transactions from number `main` on. A transaction without writes gets no number, so none is empty
 abbrev pub CanFollow : State → (main : ℕ) → List Transaction → Type 0
 CanFollow state main [] = Unit {0}
 CanFollow state main (t ∷ later) = (0 < length t) × CanWriteAll state main 0 t × CanFollow (after_all (written state main 0 t) state) (main + 1) later

@@ -7,14 +7,14 @@ use Rattle.bolt_etcd.specs.declared.check.missing.Missing.TheVariants.{Revisions
 abbrev pub number_cmp : RevisionView → RevisionView → Ordering
 number_cmp a b = numbers_cmp a.key b.key
 
-abbrev pub Reports : ℕ → Missing → Type 0
-Reports t (Transactions first last) = (first ≤ t) × (t ≤ last)
-Reports t (Revisions main first last) = ⊥
+abbrev pub HasNumber : ℕ → Missing → Type 0
+HasNumber t (Transactions first last) = (first ≤ t) × (t ≤ last)
+HasNumber t (Revisions main first last) = ⊥
 
 -- one of the missing numbers reports that a transaction is missing
 abbrev pub IsReported : ℕ → List Missing → Type 0
 IsReported t [] = ⊥
-IsReported t (m ∷ ms) = Reports t m ⊎ IsReported t ms
+IsReported t (m ∷ ms) = HasNumber t m ⊎ IsReported t ms
 
 -- no revision of the list is of this transaction
 abbrev pub HasNoneOf : ℕ → List RevisionView → Type 0

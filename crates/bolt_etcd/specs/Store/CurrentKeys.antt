@@ -31,7 +31,7 @@ is_current_by nameless is_listed name key = if is_nameless name then is_this key
 abbrev pub any_current_by : Option Key → List RevisionView → Bool
 any_current_by nameless current = is_some nameless || list_any (λ r. not (is_nameless (name_of r))) current
 
--- whether the first of these has a key, and what is left then
+-- whether the first of these revisions has a key, and the list without it, if it has
 abbrev pub begins_with_key : Key → List RevisionView → Bool
 begins_with_key key [] = false
 begins_with_key key (r ∷ rs) = bytes_eq r.stored_key key

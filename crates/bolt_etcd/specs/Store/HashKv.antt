@@ -26,7 +26,7 @@ is_left_out compacted k is_current any_current = (k.deleted && (k.main == compac
 abbrev pub is_summed : (up_to compacted : ℕ) → List RevisionView → RevisionView → Bool
 is_summed up_to compacted rs r = is_until up_to r && not (is_left_out compacted r.key (is_current_at up_to rs r) (list_any (is_current_at up_to rs) rs))
 
--- an entry, by the revision or the mark that it is; a mark counts as a revision of the name without bytes
+-- an entry is a revision or a mark that passes a test; a mark counts as a revision of the name without bytes
 abbrev pub passes : (RevisionView → Bool) → Option RevisionView → Bool
 passes p None = false
 passes p (Some r) = p r
@@ -39,6 +39,6 @@ unfoldable pub hash_kv : (up_to compacted : ℕ) → List LeafElement → ℕ
 hash_kv up_to compacted entries = crc_of (key_bucket ++ flat_map (λ e. e.key ++ e.value) (summed up_to compacted entries))
 
 -- the hash is unknown if there are entries that are neither revisions nor marks
-abbrev pub hash_unless : (others : List LeafElement) → ℕ → Option ℕ
+abbrev pub hash_unless : (unread : List LeafElement) → ℕ → Option ℕ
 hash_unless [] hash = Some hash
-hash_unless (e ∷ others) hash = None
+hash_unless (e ∷ unread) hash = None

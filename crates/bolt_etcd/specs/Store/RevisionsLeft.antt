@@ -7,7 +7,7 @@ use Rattle.bolt_tree.specs.{BucketViews.BucketView, BucketViews.bucket_in, Curso
 use Rattle.bolt_tree.specs.{Entries.entry_view}
 use Rattle.bolt_tree.specs.{Cursors.cursor_checked, Cursors.cursor_place, Cursors.cursor_start, Entries.Start, EntriesLeft.ForEntries}
 use Rattle.bolt_tree.specs.{EntriesLeft.entries_left, FileTrees.file_entries, Places.Place}
-use Rattle.bolt_etcd.specs.{Wire.Revisions.RevisionView, Wire.Revisions.revision_of, Store.Stores.entries_from, Store.Stores.others}
+use Rattle.bolt_etcd.specs.{Wire.Revisions.RevisionView, Wire.Revisions.revision_of, Store.Stores.entries_from, Store.Stores.unread_elements}
 use Rattle.bolt_etcd.specs.{Store.Stores.revisions, declared.store.revisions.Revisions.Revisions}
 
 unfoldable pub pass_checked : Revisions → Checked
@@ -17,14 +17,14 @@ unfoldable pub pass_start : Revisions → Start
 pass_start pass = cursor_start pass.cursor
 
 -- how many entries that are neither revisions nor marks a pass has counted
-unfoldable pub pass_others : Revisions → ℕ
-pass_others pass = pass.others
+unfoldable pub pass_unread : Revisions → ℕ
+pass_unread pass = pass.unread
 
 -- how many pages a pass has opened
 unfoldable pub pass_opened : Revisions → ℕ
 pass_opened pass = cursor_opened pass.cursor
 
--- the entries from a key on, if it is still to seek that key, or those after the place of its cursor
+-- the entries that a pass has ahead: those from a key on, if it is still to seek that key, or those after the place of its cursor
 abbrev pub ahead_at : Option Key → Place → List LeafElement → List LeafElement
 ahead_at (Some key) place entries = entries_from key entries
 ahead_at None place entries = entries_left entries place
@@ -53,14 +53,14 @@ abbrev pub GivesFirst : (old new : List LeafElement) → Option RevisionView →
 GivesFirst old new (Some r) = revisions old ≡ r ∷ revisions new
 GivesFirst old new None = (revisions old ≡ []) × (new ≡ [])
 
-abbrev pub CountsOthers : (old new : List LeafElement) → (before after : ℕ) → Type 0
-CountsOthers old new before after = counted after (length (others new)) ≡ counted before (length (others old))
+abbrev pub CountsUnread : (old new : List LeafElement) → (before after : ℕ) → Type 0
+CountsUnread old new before after = counted after (length (unread_elements new)) ≡ counted before (length (unread_elements old))
 
 -- a pass counts the entries between its two places that are neither revisions nor marks
 abbrev pub CountsPassed : (old new : Revisions) → Type 0
-CountsPassed old new = ForPass old (λ entries. CountsOthers (ahead_of old entries) (ahead_of new entries) (pass_others old) (pass_others new))
+CountsPassed old new = ForPass old (λ entries. CountsUnread (ahead_of old entries) (ahead_of new entries) (pass_unread old) (pass_unread new))
 
--- what is opened for one entry more: what a seek of the key opens, or a step of the cursor
+-- the pages that are opened for one entry more: those that a seek of the key opens, or a step of the cursor
 abbrev pub OpensAt : BucketView → Option Key → Place → (old new : ℕ) → Type 0
 OpensAt bucket (Some key) place old new = OpensSeek bucket key old new
 OpensAt bucket None place old new = OpensByNext bucket place old new
@@ -70,10 +70,10 @@ OpensOne pass new = OpensAt (bucket_in (pass_checked pass) (pass_start pass)) pa
 
 -- all that a pass shows, to be unfolded together
 unfoldable pub pass_viewers : ⊤
-unfolding OpensOne ahead_of pass_checked pass_opened pass_others pass_start
+unfolding OpensOne ahead_of pass_checked pass_opened pass_unread pass_start
 pass_viewers = tt
 
--- the first of these isn't a revision
+-- the first of these entries isn't a revision
 abbrev pub begins_with_other : List LeafElement → Bool
 begins_with_other [] = false
 begins_with_other (e ∷ entries) = not (is_some (revision_of (entry_view e)))

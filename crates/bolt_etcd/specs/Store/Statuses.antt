@@ -5,7 +5,7 @@ use Rattle.bolt_format.specs.Elements.{LeafElement}
 use Rattle.bolt_check.specs.{Counts.counted, Keys.Key}
 use Rattle.bolt_etcd.specs.{Store.Compacted.value_under, Store.HashKv.hash_kv, Store.HashKv.hash_unless, Store.HashKv.is_current_at}
 use Rattle.bolt_etcd.specs.{Wire.Numbered.numbered, Wire.Revisions.RevisionView, Store.StoreBuckets.StoreView}
-use Rattle.bolt_etcd.specs.{Check.StoreFaults.store_compacted, Store.Stores.others, Store.Stores.revisions}
+use Rattle.bolt_etcd.specs.{Check.StoreFaults.store_compacted, Store.Stores.unread_elements, Store.Stores.revisions}
 use Rattle.bolt_etcd.specs.{declared.store.status.StoreStatus.StoreStatus}
 use Rattle.bolt_etcd.specs.Store.BucketNames.{meta_bucket}
 
@@ -50,6 +50,6 @@ store_status up_to store entries =
       revisions = counted 0 (length (revisions entries));
       consistent_index = meta_number (codes "consistent_index") (store.bucket meta_bucket);
       term = meta_number (codes "term") (store.bucket meta_bucket);
-      hash = hash_unless (others entries) (hash_kv up_to compacted entries);
-      others = counted 0 (length (others entries));
+      hash = hash_unless (unread_elements entries) (hash_kv up_to compacted entries);
+      unread = counted 0 (length (unread_elements entries));
     }

@@ -24,7 +24,7 @@ bytes_in (Varint n) = None
 bytes_in (LengthDelimited bytes) = Some bytes
 bytes_in Fixed = None
 
--- a known field has its wire type; others are passed over
+-- a record with one more field, which must have its wire type if it is a known one; others are passed over
 unfoldable pub with : RecordView → Field → Option RecordView
 with r f =
     if f.number == 1 then option_map (λ x. record r { name = x }) (bytes_in f.value)

@@ -18,7 +18,7 @@ without_value r = record r { created = 0; version = 0; value = []; lease = 0 }
 abbrev pub record_content : Bool → RecordView → RecordView
 record_content deleted r = if deleted then without_value r else r
 
--- a mark is no record
+-- the record under a revision key; a mark is none
 abbrev pub record_under : RevisionKey → List ℕ → Option RecordView
 record_under k value = if is_mark k value then None else record_of value
 

@@ -17,6 +17,6 @@ shown_field f = record { number = f.number; value = shown_value f.value }
 abbrev pub shown_record : Record → RecordView
 shown_record r = record { name = r.name.now; created = r.created; modified = r.modified; version = r.version; value = r.value.now; lease = r.lease }
 
--- what is read, before bytes
+-- what was read, as it is shown, and the bytes after it
 abbrev pub before : {A B : Type 0} → (A → B) → A × Bor (List ℕ) → B × List ℕ
 before shown x = (shown x.0, x.1.now)

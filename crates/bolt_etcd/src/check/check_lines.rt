@@ -2,8 +2,8 @@
 ghost use Rattle.std.specs.Prelude.{[], if◌then◌else◌};
 ghost use Rattle.std.specs.List.{concat};
 ghost use Rattle.bolt_format.specs.{Endings.ending, Wrote.Wrote};
-ghost use Rattle.bolt_etcd.specs.Check.CheckLines.{name_fault_lines, lease_line, misplaced_line, missing_line, one_before_line, other_then};
-ghost use Rattle.bolt_etcd.specs.{Private.FaultsLeft.shown_name_fault, Wire.UnreadEntries.No_record, Wire.UnreadEntries.Other_key, Wire.UnreadEntries.shown_unread};
+ghost use Rattle.bolt_etcd.specs.Check.CheckLines.{name_fault_lines, lease_line, misplaced_line, missing_line, one_before_line, unread_entry_then};
+ghost use Rattle.bolt_etcd.specs.{Private.FaultsLeft.shown_name_fault, Wire.UnreadEntries.No_record, Wire.UnreadEntries.Unread_key, Wire.UnreadEntries.shown_unread};
 ghost use Rattle.bolt_etcd.specs.{Wire.ShownRevisions.shown_decoded, Wire.ShownRevisions.shown_revision};
 ghost use Rattle.bolt_check.specs.Keys.{Key};
 
@@ -25,7 +25,7 @@ pub fn put_unread_entry<S: Sink>(
     end: &[u8],
     sink: &mut S,
 ) -> Result<(), SinkFault>
-    ensures { Wrote S.Sink sink.old sink.new (other_then (shown_unread other.now) end.now)
+    ensures { Wrote S.Sink sink.old sink.new (unread_entry_then (shown_unread other.now) end.now)
         (ending result) }
 {
     match other {
@@ -36,7 +36,7 @@ pub fn put_unread_entry<S: Sink>(
 
 /// Writes that an entry with this key isn't a revision.
 fn put_no_revision<'t, S: Sink>(key: &'t [u8], end: &'t [u8], sink: &mut S) -> Result<(), SinkFault>
-    ensures { Wrote S.Sink sink.old sink.new (other_then (Other_key key.now) end.now)
+    ensures { Wrote S.Sink sink.old sink.new (unread_entry_then (Unread_key key.now) end.now)
         (ending result) }
 {
     put_pieces(
@@ -52,7 +52,7 @@ fn put_no_revision<'t, S: Sink>(key: &'t [u8], end: &'t [u8], sink: &mut S) -> R
 
 /// Writes that the value under this key isn't a record.
 fn put_no_record<S: Sink>(key: RevisionKey, end: &[u8], sink: &mut S) -> Result<(), SinkFault>
-    ensures { Wrote S.Sink sink.old sink.new (other_then (No_record key) end.now) (ending result) }
+    ensures { Wrote S.Sink sink.old sink.new (unread_entry_then (No_record key) end.now) (ending result) }
 {
     put_pieces(
         &[

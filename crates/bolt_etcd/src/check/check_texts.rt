@@ -8,7 +8,7 @@ ghost use Rattle.bolt_etcd.specs.{Wire.ShownRevisions.shown_revision};
 ghost use Rattle.bolt_etcd.specs.Check.CheckLines.{name_fault_lines};
 ghost use Rattle.bolt_etcd.specs.Private.FaultsLeft.{shown_name_fault, ForFaultLines};
 ghost use Rattle.bolt_etcd.specs.{Private.MissingLeft.ForMissing, Private.MissingLeft.missing_left};
-ghost use Rattle.bolt_etcd.specs.Check.StoreFaults.{other_lines};
+ghost use Rattle.bolt_etcd.specs.Check.StoreFaults.{unread_entry_lines};
 ghost use Rattle.bolt_etcd.specs.Store.RevisionsLeft.{ForAhead};
 
 use crate::check::check_lines::{put_misplaced, put_missing, put_name_fault, put_unread_entry};
@@ -20,11 +20,14 @@ use bolt_format::{Sink, SinkFault};
 
 /// Writes a line for each entry ahead of a pass that is neither a revision nor a mark, and returns
 /// how many these are. The number saturates at 2^64 - 1.
-pub(crate) fn put_others<S: Sink>(mut pass: Revisions<'_>, sink: &mut S) -> Result<u64, SinkFault>
+pub(crate) fn put_all_unread<S: Sink>(
+    mut pass: Revisions<'_>,
+    sink: &mut S,
+) -> Result<u64, SinkFault>
     ensures written { ForAhead pass.entry (λ entries.
-        Wrote S.Sink sink.old sink.new (concat (other_lines entries)) (ending result)) }
+        Wrote S.Sink sink.old sink.new (concat (unread_entry_lines entries)) (ending result)) }
     ensures number { IfOk result (λ n.
-        ForAhead pass.entry (λ entries. n ≡ counted 0 (length (other_lines entries)))) }
+        ForAhead pass.entry (λ entries. n ≡ counted 0 (length (unread_entry_lines entries)))) }
 {
     let mut number = 0_u64;
     'rest: while let Some(other) = pass.next_unread() {
@@ -97,7 +100,7 @@ pub(crate) fn put_name_faults<S: Sink>(
     Ok(number)
 }
 
-/// How many lines are written of it.
+/// How many lines are written of a revision of which something is missing.
 fn number_of_lines(fault: &NameFault<'_>) -> u64
     ensures { result ≡ length (name_fault_lines (shown_name_fault fault.now)) }
 {

@@ -38,7 +38,7 @@ pub struct MissingNumbers<'a> {
     above: u64,
     /// The last transaction so far.
     main: u64,
-    /// The number of its next revision.
+    /// The number of the next revision of the last transaction.
     sub: u64,
     /// What comes next, if it is known already.
     pending: Option<Missing>,

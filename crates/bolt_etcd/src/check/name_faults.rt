@@ -12,9 +12,9 @@ use bolt_tree::Bucket;
 pub struct NameFault<'a> {
     /// The revision.
     pub revision: Revision<'a>,
-    /// Whether it doesn't follow the one before it of its name: one between is missing.
+    /// Whether the revision doesn't follow the one before it of its name: one between is missing.
     pub one_before: bool,
-    /// Whether it is the newest of its name, and has a lease that isn't there.
+    /// Whether the revision is the newest of its name, and has a lease that isn't there.
     pub lease: bool,
 }
 
@@ -23,9 +23,9 @@ pub struct NameFault<'a> {
 #[derive(Drop)]
 pub struct NameFaults<'a> {
     revisions: &'a [Revision<'a>],
-    /// How many of them it has gone over.
+    /// How many revisions the pass has gone over.
     at: usize,
-    /// The last one of these.
+    /// The last revision that it has gone over.
     before: Option<Revision<'a>>,
     compacted: Option<u64>,
     leases: Option<Bucket<'a>>,
@@ -37,8 +37,8 @@ impl<'a> NameFaults<'a> {
     ghost use Rattle.bolt_etcd.specs.Private.FaultsLeft.{GivesFault, IsNextFault, faults_leases, faults_left, faults_number, revisions_left};
     ghost use Rattle.bolt_etcd.specs.Private.FaultsLeft.{StepsOver};
 
-    /// Of revisions as `RevisionList::sort_by_name` sorts them, after a compaction at this transaction, if it is
-    /// known. These are the leases that there are; without them there is none.
+    /// A pass over revisions as `RevisionList::sort_by_name` sorts them, after a compaction at this transaction,
+    /// if it is known. `leases` is the bucket of the leases that there are; without it there is none.
     pub fn of(
         revisions: &'a [Revision<'a>],
         compacted: Option<u64>,
@@ -114,7 +114,7 @@ impl<'a> NameFaults<'a> {
         let Some(compacted) = self.compacted else {
             return false;
         };
-        if revision.key().main <= compacted {
+        if revision.is_until(compacted) {
             return false;
         }
         match &self.before {

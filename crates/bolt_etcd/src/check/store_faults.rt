@@ -5,16 +5,18 @@ ghost use Rattle.bolt_check.specs.Counts.{counted};
 ghost use Rattle.bolt_format.specs.{Endings.ending, Wrote.Wrote};
 ghost use Rattle.bolt_text.specs.ReportEndings.{FailsByWriting, report_ending};
 ghost use Rattle.bolt_etcd.specs.{Check.CheckLines.missing_line};
-ghost use Rattle.bolt_etcd.specs.{Wire.Numbered.numbered, Store.Stores.others};
+ghost use Rattle.bolt_etcd.specs.{Wire.Numbered.numbered, Store.Stores.unread_elements};
 ghost use Rattle.bolt_etcd.specs.Store.StoreBuckets.{ForStore};
 ghost use Rattle.bolt_etcd.specs.Check.StoreFaults.{bucket_line, missing_bucket_lines, entry_lines, line_without, missing_if, store_lines};
-ghost use Rattle.bolt_etcd.specs.Check.StoreFaults.{other_lines};
+ghost use Rattle.bolt_etcd.specs.Check.StoreFaults.{unread_entry_lines};
 ghost use Rattle.bolt_etcd.specs.{Check.ForNames.ForGranted, Check.ForNames.ForNameLines, Check.NameFaults.name_faults};
 ghost use Rattle.bolt_etcd.specs.{Wire.ShownRevisions.shown_revision};
-ghost use Rattle.bolt_etcd.specs.Store.Stores.{ForCollected, ForOthers};
+ghost use Rattle.bolt_etcd.specs.Store.Stores.{ForCollected, ForUnread};
 ghost use Rattle.bolt_tree.specs.EntriesLeft.{ForBucket};
 
-use crate::check::check_texts::{put_all_misplaced, put_all_missing, put_name_faults, put_others};
+use crate::check::check_texts::{
+    put_all_misplaced, put_all_missing, put_all_unread, put_name_faults,
+};
 use crate::check::missing::MissingNumbers;
 use crate::check::name_faults::NameFaults;
 use crate::store::buckets::{BUCKET_NAMES, KEY_BUCKET, LEASE_BUCKET};
@@ -138,27 +140,27 @@ fn put_entry_faults<S: Sink>(
         ForCollected keys.now found.now (λ entries.
         n ≡ counted 0 (length (entry_lines compacted entries)))) }
 {
-    let others = put_counted_others(keys, found.others, sink)?;
+    let unread = put_counted_unread(keys, found.unread, sink)?;
     let misplaced = put_all_misplaced(&found.revisions, sink)?;
     let missing = put_missing_numbers(keys, compacted, sink)?;
-    Ok(others.saturating_add(misplaced).saturating_add(missing))
+    Ok(unread.saturating_add(misplaced).saturating_add(missing))
 }
 
 /// Writes a line for each entry of the bucket `key` that is neither a revision nor a mark. There are
 /// `number` of them. If there are none, it doesn't look for them.
-fn put_counted_others<S: Sink>(
+fn put_counted_unread<S: Sink>(
     keys: &Bucket<'_>,
     number: u64,
     sink: &mut S,
 ) -> Result<u64, SinkFault>
-    ensures written { ForOthers keys.now number (λ entries.
-        Wrote S.Sink sink.old sink.new (concat (other_lines entries)) (ending result)) }
+    ensures written { ForUnread keys.now number (λ entries.
+        Wrote S.Sink sink.old sink.new (concat (unread_entry_lines entries)) (ending result)) }
     ensures number { IfOk result (λ n.
-        ForOthers keys.now number (λ entries. n ≡ counted 0 (length (other_lines entries)))) }
+        ForUnread keys.now number (λ entries. n ≡ counted 0 (length (unread_entry_lines entries)))) }
 {
     match number {
         0 => Ok(0),
-        _ => put_others(Revisions::of(keys), sink),
+        _ => put_all_unread(Revisions::of(keys), sink),
     }
 }
 

@@ -21,7 +21,7 @@ pub struct Crc32c {
 impl Crc32c {
     ghost use Rattle.bolt_etcd.specs.Store.CrcStates.{crc_state};
 
-    /// Of no bytes so far.
+    /// The CRC-32C of no bytes so far.
     pub fn new() -> Crc32c
         ensures { crc_state result ≡ crc_begin }
     {

@@ -4,7 +4,7 @@ ghost use Rattle.bolt_check.specs.Counts.{counted};
 ghost use Rattle.std.specs.List.Sorted.{IsPermutation, IsSorted};
 ghost use Rattle.bolt_etcd.specs.Store.Current.{AreCurrentBySum, HaveOwnKeys};
 ghost use Rattle.bolt_etcd.specs.Store.Orders.{name_cmp, stored_key_cmp};
-ghost use Rattle.bolt_etcd.specs.{Store.HashKv.is_current_at, Wire.ShownRevisions.shown_revision, Store.Stores.others, Store.Stores.revisions};
+ghost use Rattle.bolt_etcd.specs.{Store.HashKv.is_current_at, Wire.ShownRevisions.shown_revision, Store.Stores.unread_elements, Store.Stores.revisions};
 ghost use Rattle.bolt_tree.specs.EntriesLeft.{ForBucket};
 ghost use Rattle.bolt_etcd.specs.Check.ForNames.{AreCurrentAt};
 
@@ -22,7 +22,7 @@ pub struct Current<'a> {
     pub revisions: Vec<Revision<'a>>,
     /// The number of entries that are neither revisions nor marks. One of them may have been newer. It
     /// saturates at 2^64 - 1.
-    pub others: u64,
+    pub unread: u64,
 }
 
 impl<'a> Current<'a> {
@@ -35,17 +35,17 @@ impl<'a> Current<'a> {
     pub fn find(alloc: Global, bucket: &Bucket<'a>, up_to: u64) -> Result<Current<'a>, NoMemory>
         ensures keys { IfOk result (λ current.
             AreCurrentAt bucket.now up_to (map shown_revision current.revisions.items)) }
-        ensures others { IfOk result (λ current.
+        ensures unread { IfOk result (λ current.
             ForBucket bucket.now (λ entries.
-            current.others ≡ counted 0 (length (others entries)))) }
+            current.unread ≡ counted 0 (length (unread_elements entries)))) }
     {
         let RevisionList {
             mut revisions,
-            others,
+            unread,
         } = RevisionList::of(alloc, bucket, up_to)?;
         keep_newest(&mut revisions);
         sort_by_name(&mut revisions);
-        Ok(Current { revisions, others })
+        Ok(Current { revisions, unread })
     }
 }
 
@@ -86,16 +86,16 @@ pub(crate) fn current_by_key<'a>(
     ensures current { IfOk result (λ current. ForBucket bucket.now (λ entries.
         map shown_revision current.revisions.items
         ≡ filter (is_current_at up_to (revisions entries)) (revisions entries))) }
-    ensures others { IfOk result (λ current.
-        ForBucket bucket.now (λ entries. current.others ≡ counted 0 (length (others entries)))) }
+    ensures unread { IfOk result (λ current.
+        ForBucket bucket.now (λ entries. current.unread ≡ counted 0 (length (unread_elements entries)))) }
 {
     let RevisionList {
         mut revisions,
-        others,
+        unread,
     } = RevisionList::of(alloc, bucket, up_to)?;
     keep_newest(&mut revisions);
     sort_by_key(&mut revisions);
-    Ok(RevisionList { revisions, others })
+    Ok(RevisionList { revisions, unread })
 }
 
 /// Sorts revisions by their keys.
@@ -105,11 +105,5 @@ fn sort_by_key(revisions: &mut Vec<Revision<'_>>)
     ensures sorted { IsSorted stored_key_cmp (map shown_revision revisions.new.items) }
 {
     sort_roughly(revisions);
-    revisions.sort_unstable_by(by_key);
-}
-
-fn by_key(a: &Revision<'_>, b: &Revision<'_>) -> Ordering
-    ensures { result ≡ stored_key_cmp (shown_revision a.now) (shown_revision b.now) }
-{
-    a.stored_key().cmp(b.stored_key())
+    revisions.sort_unstable_by(|a, b| a.cmp_stored_key(b));
 }

@@ -6,7 +6,7 @@ ghost use Rattle.bolt_etcd.specs.Store.CrcStates.{crc_state};
 ghost use Rattle.bolt_format.specs.Elements.{LeafElement};
 ghost use Rattle.bolt_tree.specs.ShownEntries.{shown_entry};
 ghost use Rattle.bolt_etcd.specs.Store.HashKv.{hash_kv, hash_unless, is_current_at, is_left_out};
-ghost use Rattle.bolt_etcd.specs.{Wire.Numbered.numbered, Wire.ShownRevisions.shown_revision, Store.Stores.others, Store.Stores.revisions};
+ghost use Rattle.bolt_etcd.specs.{Wire.Numbered.numbered, Wire.ShownRevisions.shown_revision, Store.Stores.unread_elements, Store.Stores.revisions};
 ghost use Rattle.bolt_check.specs.Counts.{counted};
 ghost use Rattle.bolt_tree.specs.EntriesLeft.{ForBucket};
 
@@ -20,7 +20,7 @@ use bolt_tree::{Bucket, Entry};
 /// Which revisions and marks are summed.
 #[derive(Clone, Copy)]
 pub(crate) struct HashBounds<'s, 'a> {
-    /// The transaction up to which they are.
+    /// The transaction up to which revisions and marks are summed.
     pub up_to: u64,
     /// The transaction of the last compaction.
     pub compacted: u64,
@@ -31,7 +31,8 @@ pub(crate) struct HashBounds<'s, 'a> {
 }
 
 impl<'s, 'a> HashBounds<'s, 'a> {
-    /// The sum of those in a bucket, after the name `key`. Goes over all its entries once, and needs no memory.
+    /// The sum of the revisions and the marks in a bucket, after the name `key`. Goes over all entries of
+    /// the bucket once, and needs no memory.
     pub(crate) fn sum(self, bucket: &Bucket<'a>) -> u32
         requires current { ForBucket bucket.now (λ entries.
             map shown_revision self.current.now
@@ -54,17 +55,18 @@ impl<'s, 'a> HashBounds<'s, 'a> {
         sum.finish()
     }
 
-    /// The sum of those in a bucket, unless so many of its entries aren't revisions.
+    /// The sum of a bucket, or `None` if it has entries that are neither revisions nor marks: `number` of
+    /// them.
     pub(crate) fn sum_unless(self, number: u64, bucket: &Bucket<'a>) -> Option<u32>
-        requires others { ForBucket bucket.now (λ entries.
-            number ≡ counted 0 (length (others entries))) }
+        requires unread { ForBucket bucket.now (λ entries.
+            number ≡ counted 0 (length (unread_elements entries))) }
         requires current { ForBucket bucket.now (λ entries.
             map shown_revision self.current.now
             ≡ filter (is_current_at self.up_to (revisions entries)) (revisions entries)) }
         requires nameless { ForBucket bucket.now (λ entries.
             option_map (λ key. key.now) self.nameless ≡ nameless_key self.up_to (numbered entries)) }
         ensures { ForBucket bucket.now (λ entries.
-            result ≡ hash_unless (others entries)
+            result ≡ hash_unless (unread_elements entries)
             (hash_kv self.entry.up_to self.entry.compacted entries)) }
     {
         match number {
@@ -73,7 +75,8 @@ impl<'s, 'a> HashBounds<'s, 'a> {
         }
     }
 
-    /// Adds an entry to a sum, if it is summed. It is listed among the current ones, or not, and any is current, or none.
+    /// Adds an entry to a sum, if it is summed: by whether it is listed among the current revisions, and by
+    /// whether any revision or mark is current.
     fn add(&self, entry: &Entry<'_>, is_listed: bool, any_current: bool, sum: &mut Crc32c)
         ensures { (entries : List LeafElement)
             → KnowsCurrent self.now entries (shown_entry entry.now) is_listed any_current
@@ -106,7 +109,7 @@ impl<'s, 'a> HashBounds<'s, 'a> {
         false
     }
 
-    /// Whether it is current, if it is listed among those that are.
+    /// Whether a revision or a mark is current, by whether it is listed among the current revisions.
     fn is_current(&self, numbered: &NumberedEntry<'_>, is_listed: bool) -> bool
         ensures { result ≡ is_current_by (option_map (λ key. key.now) self.now.nameless) is_listed
             numbered.now.name.now numbered.now.stored_key.now }
@@ -120,7 +123,7 @@ impl<'s, 'a> HashBounds<'s, 'a> {
         }
     }
 
-    /// Whether it is summed, if it is current, and if any is.
+    /// Whether a revision or a mark is summed, by whether it is current, and whether any is.
     fn includes(&self, numbered: &NumberedEntry<'_>, is_current: bool, any_current: bool) -> bool
         ensures { result ≡ (not (nat_lt self.now.up_to numbered.now.key.main)
             && not (is_left_out self.now.compacted numbered.now.key is_current any_current)) }
@@ -133,7 +136,7 @@ impl<'s, 'a> HashBounds<'s, 'a> {
     }
 }
 
-/// Whether the first of these has this key, and those that are left then: without it, if it has.
+/// Whether the first of these revisions has this key, and the list that is left: without it, if it has.
 fn take_first<'s, 'a>(listed: &'s [Revision<'a>], key: &[u8]) -> (bool, &'s [Revision<'a>])
     ensures has { result.0 ≡ begins_with_key key.now (map shown_revision listed.now) }
     ensures left { map shown_revision result.1.now

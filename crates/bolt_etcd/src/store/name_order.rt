@@ -8,7 +8,7 @@ ghost use Rattle.bolt_etcd.specs.Store.Orders.{AreBySum, AreNewestBySum, by_sum_
 use crate::wire::revision::Revision;
 use std::cmp::Ordering;
 
-/// By the sums of names, and of one sum by name.
+/// Compares two revisions by the sums of their names, and those of one sum by name.
 fn cmp_by_sums(a: &Revision<'_>, b: &Revision<'_>) -> Ordering
     ensures { result ≡ name_sum_cmp (shown_revision a.now) (shown_revision b.now) }
 {
@@ -18,22 +18,22 @@ fn cmp_by_sums(a: &Revision<'_>, b: &Revision<'_>) -> Ordering
     }
 }
 
-/// By the sums of names, and of one name the earlier ones first.
+/// Compares two revisions by the sums of their names, and those of one name by their keys.
 fn by_sum(a: &Revision<'_>, b: &Revision<'_>) -> Ordering
     ensures { result ≡ by_sum_cmp (shown_revision a.now) (shown_revision b.now) }
 {
     match cmp_by_sums(a, b) {
-        Ordering::Equal => a.stored_key().cmp(b.stored_key()),
+        Ordering::Equal => a.cmp_stored_key(b),
         order => order,
     }
 }
 
-/// By the sums of names, and of one name the later ones first.
+/// Compares two revisions by the sums of their names. Of one name the later revisions come first.
 fn newest_by_sum(a: &Revision<'_>, b: &Revision<'_>) -> Ordering
     ensures { result ≡ newest_by_sum_cmp (shown_revision a.now) (shown_revision b.now) }
 {
     match cmp_by_sums(a, b) {
-        Ordering::Equal => b.stored_key().cmp(a.stored_key()),
+        Ordering::Equal => b.cmp_stored_key(a),
         order => order,
     }
 }
@@ -48,7 +48,7 @@ pub(crate) fn sort_by_sum(revisions: &mut Vec<Revision<'_>>)
     revisions.sort_unstable_by(by_sum);
 }
 
-/// Sorts by the sums of names. Of one name the later revisions come first.
+/// Sorts revisions by the sums of their names. Of one name the later revisions come first.
 pub(crate) fn sort_newest_by_sum(revisions: &mut Vec<Revision<'_>>)
     ensures { AreNewestBySum (map shown_revision revisions.old.items)
         (map shown_revision revisions.new.items) }

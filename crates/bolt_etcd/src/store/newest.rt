@@ -2,7 +2,7 @@
 ghost use Rattle.std.specs.Prelude.{◌≡◌, length};
 ghost use Rattle.std.specs.Option.{option_map};
 ghost use Rattle.bolt_check.specs.Counts.{counted};
-ghost use Rattle.bolt_etcd.specs.{Store.Newest.is_of, Wire.ShownRevisions.shown_revision, Store.Stores.others, Store.Stores.revisions};
+ghost use Rattle.bolt_etcd.specs.{Store.Newest.is_of, Wire.ShownRevisions.shown_revision, Store.Stores.unread_elements, Store.Stores.revisions};
 ghost use Rattle.bolt_tree.specs.EntriesLeft.{ForBucket};
 
 use crate::store::revisions::Revisions;
@@ -16,7 +16,7 @@ pub struct Newest<'a> {
     pub revision: Option<Revision<'a>>,
     /// The number of entries that are neither revisions nor marks. One of them may have been newer. It
     /// saturates at 2^64 - 1.
-    pub others: u64,
+    pub unread: u64,
 }
 
 impl<'a> Newest<'a> {
@@ -29,8 +29,8 @@ impl<'a> Newest<'a> {
         ensures revision { ForBucket bucket.now (λ entries.
             option_map shown_revision result.revision
             ≡ newest name.now (until up_to (revisions entries))) }
-        ensures others { ForBucket bucket.now (λ entries.
-            result.others ≡ counted 0 (length (others entries))) }
+        ensures unread { ForBucket bucket.now (λ entries.
+            result.unread ≡ counted 0 (length (unread_elements entries))) }
     {
         let mut revisions = Revisions::of(bucket);
         let mut revision = None;
@@ -41,7 +41,7 @@ impl<'a> Newest<'a> {
         }
         Newest {
             revision,
-            others: revisions.others(),
+            unread: revisions.unread(),
         }
     }
 
@@ -58,9 +58,9 @@ impl<'a> Newest<'a> {
     }
 }
 
-/// Whether it is a revision of a name, of no later transaction.
+/// Whether a revision is one of a name, and of no later transaction than `up_to`.
 fn is_of(revision: &Revision<'_>, name: &[u8], up_to: u64) -> bool
     ensures { result ≡ is_of name.now up_to (shown_revision revision.now) }
 {
-    revision.name() == name && revision.key().main <= up_to
+    revision.name() == name && revision.is_until(up_to)
 }

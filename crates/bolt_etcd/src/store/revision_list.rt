@@ -1,9 +1,9 @@
 //! Revisions of a bucket, kept in memory.
 ghost use Rattle.std.specs.Prelude.{◌≡◌, IfOk, length, map};
 ghost use Rattle.bolt_check.specs.Counts.{counted};
-ghost use Rattle.bolt_etcd.specs.{Check.NameFaults.AreByName, Check.NameFaults.by_name_cmp, Store.Newest.is_until, Store.Newest.until};
+ghost use Rattle.bolt_etcd.specs.{Check.NameFaults.AreByName, Check.NameFaults.by_name_cmp, Store.Newest.until};
 ghost use Rattle.bolt_etcd.specs.{Wire.ShownRevisions.shown_revision};
-ghost use Rattle.bolt_etcd.specs.{Store.Stores.others, Store.Stores.revisions};
+ghost use Rattle.bolt_etcd.specs.{Store.Stores.unread_elements, Store.Stores.revisions};
 ghost use Rattle.bolt_tree.specs.EntriesLeft.{ForBucket};
 
 use crate::store::revisions::Revisions;
@@ -18,7 +18,7 @@ pub struct RevisionList<'a> {
     /// The revisions.
     pub revisions: Vec<Revision<'a>>,
     /// The number of entries that are neither revisions nor marks. It saturates at 2^64 - 1.
-    pub others: u64,
+    pub unread: u64,
 }
 
 impl<'a> RevisionList<'a> {
@@ -31,19 +31,19 @@ impl<'a> RevisionList<'a> {
     pub fn of(alloc: Global, bucket: &Bucket<'a>, up_to: u64) -> Result<RevisionList<'a>, NoMemory>
         ensures revisions { IfOk result (λ all. ForBucket bucket.now (λ entries.
             map shown_revision all.revisions.items ≡ until up_to (revisions entries))) }
-        ensures others { IfOk result (λ all.
-            ForBucket bucket.now (λ entries. all.others ≡ counted 0 (length (others entries)))) }
+        ensures unread { IfOk result (λ all.
+            ForBucket bucket.now (λ entries. all.unread ≡ counted 0 (length (unread_elements entries)))) }
     {
         let mut collected = Vec::with_capacity(alloc, count_until(bucket, up_to))?;
         let mut revisions = Revisions::of(bucket);
         'rest: while let Some(revision) = revisions.next() {
-            if is_until(&revision, up_to) && collected.push(revision).is_err() {
+            if revision.is_until(up_to) && collected.push(revision).is_err() {
                 return Err(NoMemory);
             }
         }
         Ok(RevisionList {
             revisions: collected,
-            others: revisions.others(),
+            unread: revisions.unread(),
         })
     }
 
@@ -51,7 +51,7 @@ impl<'a> RevisionList<'a> {
     pub fn sort_by_name(&mut self)
         ensures sorted { AreByName (map shown_revision self.old.revisions.items)
             (map shown_revision self.new.revisions.items) }
-        ensures others { self.new.others ≡ self.old.others }
+        ensures unread { self.new.unread ≡ self.old.unread }
     {
         self.revisions.sort_unstable_by(compare);
     }
@@ -65,25 +65,16 @@ fn count_until(bucket: &Bucket<'_>, up_to: u64) -> usize
     let mut n = 0_usize;
     let mut revisions = Revisions::of(bucket);
     'rest: while let Some(revision) = revisions.next() {
-        if is_until(&revision, up_to) {
+        if revision.is_until(up_to) {
             n = n.saturating_add(1);
         }
     }
     n
 }
 
-/// Whether it is of no later transaction.
-fn is_until(revision: &Revision<'_>, up_to: u64) -> bool
-    ensures { result ≡ is_until up_to (shown_revision revision.now) }
-{
-    revision.key().main <= up_to
-}
-
-/// By name, and of one name the earlier ones first.
+/// Compares two revisions by name, and those of one name by their keys.
 fn compare(a: &Revision<'_>, b: &Revision<'_>) -> Ordering
     ensures { result ≡ by_name_cmp (shown_revision a.now) (shown_revision b.now) }
 {
-    a.name()
-        .cmp(b.name())
-        .then(a.stored_key().cmp(b.stored_key()))
+    a.name().cmp(b.name()).then(a.cmp_stored_key(b))
 }

@@ -9,7 +9,7 @@ ghost use Rattle.bolt_etcd.specs.{Wire.RevisionKeys.IsSpelled, Wire.UnreadEntrie
 use crate::wire::numbered_entry::NumberedEntry;
 use crate::wire::revision::Revision;
 use crate::wire::revision_key::RevisionKey;
-use crate::wire::unread_entry::{UnreadEntry, others_in};
+use crate::wire::unread_entry::{UnreadEntry, count_unread};
 use bolt_tree::{Bucket, Cursor, Entry};
 
 /// A pass over the revisions of a bucket, in the order of their keys. It keeps nothing of those that
@@ -19,21 +19,21 @@ pub struct Revisions<'a> {
     cursor: Cursor<'a>,
     /// The key to seek, until it was sought.
     from: Option<[u8; 8]>,
-    others: u64,
+    unread: u64,
 }
 
 #[tactic(auto, unfolding(crate::specs::Store::RevisionsLeft::pass_viewers))]
 impl<'a> Revisions<'a> {
     ghost use Rattle.bolt_etcd.specs.Private.Passes.{ShowsFirst};
     ghost use Rattle.bolt_etcd.specs.Store.RevisionsLeft.{CountsPassed, ForPass, GivesFirst, OpensOne, ahead_of, begins_with_other, number_ahead};
-    ghost use Rattle.bolt_etcd.specs.Store.RevisionsLeft.{pass_checked, pass_opened, pass_others, pass_start};
+    ghost use Rattle.bolt_etcd.specs.Store.RevisionsLeft.{pass_checked, pass_opened, pass_unread, pass_start};
 
     /// All revisions of a bucket.
     pub fn of(bucket: &Bucket<'a>) -> Revisions<'a>
         ensures checked { pass_checked result ≡ bucket_checked bucket.now }
         ensures start { pass_start result ≡ bucket_start bucket.now }
         ensures all { ForPass result (λ entries. ahead_of result entries ≡ entries) }
-        ensures others { pass_others result ≡ 0 }
+        ensures unread { pass_unread result ≡ 0 }
         ensures opened { pass_opened result ≡ 0 }
         ensures opens { (n : ℕ) → OpensOne result n
             → OpensGap (bucket_in (bucket_checked bucket.now) (bucket_start bucket.now)) 0 0 n }
@@ -41,7 +41,7 @@ impl<'a> Revisions<'a> {
         Revisions {
             cursor: bucket.cursor(),
             from: None,
-            others: 0,
+            unread: 0,
         }
     }
 
@@ -52,7 +52,7 @@ impl<'a> Revisions<'a> {
         ensures start { pass_start result ≡ bucket_start bucket.now }
         ensures rest { ForPass result (λ entries.
             ahead_of result entries ≡ entries_from (to_be_bytes w64 main) entries) }
-        ensures others { pass_others result ≡ 0 }
+        ensures unread { pass_unread result ≡ 0 }
         ensures opened { pass_opened result ≡ 0 }
         ensures opens { (n : ℕ) → OpensOne result n
             → OpensSeek (bucket_in (bucket_checked bucket.now) (bucket_start bucket.now))
@@ -61,7 +61,7 @@ impl<'a> Revisions<'a> {
         Revisions {
             cursor: bucket.cursor(),
             from: Some(main.to_be_bytes()),
-            others: 0,
+            unread: 0,
         }
     }
 
@@ -84,34 +84,34 @@ impl<'a> Revisions<'a> {
             if let Some(revision) = Revision::of(&entry) {
                 return Some(revision);
             }
-            self.others = self.others.saturating_add(others_in(&entry));
+            self.unread = self.unread.saturating_add(count_unread(&entry));
         }
         None
     }
 
     /// The number of entries that `next` has passed over and that are neither revisions nor marks. It
     /// saturates at 2^64 - 1.
-    pub fn others(&self) -> u64
-        ensures { result ≡ pass_others self.now }
+    pub fn unread(&self) -> u64
+        ensures { result ≡ pass_unread self.now }
     {
-        self.others
+        self.unread
     }
 
-    /// The number of pages that it has opened. It saturates at 2^64 - 1.
+    /// The number of pages that the pass has opened. It saturates at 2^64 - 1.
     pub fn opened(&self) -> u64
         ensures { result ≡ pass_opened self.now }
     {
         self.cursor.opened()
     }
 
-    /// The next entry.
+    /// Goes on to the next entry of the bucket, whatever it is, and counts nothing.
     pub(crate) fn advance(&mut self) -> Option<Entry<'a>>
         ensures checked { pass_checked self.new ≡ pass_checked self.old }
         ensures start { pass_start self.new ≡ pass_start self.old }
         ensures first { ForPass self.old (λ entries.
             ShowsFirst (ahead_of self.old entries) (ahead_of self.new entries)
             (option_map shown_entry result)) }
-        ensures others { pass_others self.new ≡ pass_others self.old }
+        ensures unread { pass_unread self.new ≡ pass_unread self.old }
         ensures opens { OpensOne self.old (pass_opened self.new) }
     {
         match self.from.take() {
@@ -122,17 +122,17 @@ impl<'a> Revisions<'a> {
 }
 
 impl<'a> Revisions<'a> {
-    ghost use Rattle.bolt_etcd.specs.{Wire.Numbered.GivesNumber, Wire.UnreadEntries.GivesOther};
-    ghost use Rattle.bolt_etcd.specs.Store.RevisionsLeft.{ForPass, ahead_of, number_ahead, pass_checked, pass_others, pass_start};
+    ghost use Rattle.bolt_etcd.specs.{Wire.Numbered.GivesNumber, Wire.UnreadEntries.GivesUnread};
+    ghost use Rattle.bolt_etcd.specs.Store.RevisionsLeft.{ForPass, ahead_of, number_ahead, pass_checked, pass_unread, pass_start};
 
     /// Returns the next entry that is neither a revision nor a mark, or `None` if there is none. It
     /// counts nothing.
     pub fn next_unread(&mut self) -> Option<UnreadEntry<'a>>
         ensures checked { pass_checked self.new ≡ pass_checked self.old }
         ensures start { pass_start self.new ≡ pass_start self.old }
-        ensures others { pass_others self.new ≡ pass_others self.old }
+        ensures unread { pass_unread self.new ≡ pass_unread self.old }
         ensures given { ForPass self.old (λ entries.
-            GivesOther (ahead_of self.old entries) (ahead_of self.new entries)
+            GivesUnread (ahead_of self.old entries) (ahead_of self.new entries)
             (option_map shown_unread result)) }
         ensures fewer { IfSome result (λ _. number_ahead self.new < number_ahead self.old) }
     {

@@ -38,7 +38,7 @@ pub struct StoreStatus {
     /// The HashKV of the store, unless it has entries that are neither revisions nor marks.
     pub hash: Option<u32>,
     /// The number of entries that are neither revisions nor marks. It saturates at 2^64 - 1.
-    pub others: u64,
+    pub unread: u64,
 }
 
 impl StoreStatus {
@@ -78,8 +78,8 @@ impl StoreStatus {
             revisions: numbers.revisions,
             consistent_index: meta_number(root, b"consistent_index"),
             term: meta_number(root, b"term"),
-            hash: hashed.sum_unless(current.others, keys),
-            others: current.others,
+            hash: hashed.sum_unless(current.unread, keys),
+            unread: current.unread,
         })
     }
 }
@@ -121,7 +121,8 @@ struct Numbers<'a> {
 }
 
 impl<'a> Numbers<'a> {
-    /// Of a bucket, with the nameless one of no later transaction.
+    /// Counts the revisions and the marks of a bucket. The key of the nameless one is that of no later
+    /// transaction than `up_to`.
     fn count(bucket: &Bucket<'a>, up_to: u64) -> Numbers<'a>
         ensures newest { ForBucket bucket.now (λ entries.
             result.newest ≡ newest_main (numbered entries)) }

@@ -13,7 +13,7 @@ pub(crate) struct NumberedEntry<'a> {
     pub key: RevisionKey,
     pub stored_key: &'a [u8],
     pub value: &'a [u8],
-    /// The name of the key that it is a revision of. That of a mark has no bytes.
+    /// The name of the key that the entry is a revision of. A mark has a name without bytes.
     pub name: &'a [u8],
 }
 
@@ -39,7 +39,7 @@ impl<'a> NumberedEntry<'a> {
         })
     }
 
-    /// Whether it is a mark.
+    /// Whether the entry is a mark.
     pub(crate) fn is_mark(&self) -> bool
         ensures { result ≡ is_mark self.now.key self.now.value.now }
     {

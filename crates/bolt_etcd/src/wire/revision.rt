@@ -6,7 +6,7 @@ ghost use Rattle.bolt_format.specs.Bytes.{IsBytes};
 ghost use Rattle.bolt_check.specs.Keys.{key_cmp, Key};
 ghost use Rattle.bolt_tree.specs.ShownEntries.{shown_entry};
 ghost use Rattle.bolt_etcd.specs.{Private.Returns.Returns, Wire.RevisionKeys.IsSpelled, Wire.Revisions.name_of};
-ghost use Rattle.bolt_etcd.specs.Store.Orders.{name_sum};
+ghost use Rattle.bolt_etcd.specs.{Store.Newest.is_until, Store.Orders.name_sum, Store.Orders.stored_key_cmp};
 ghost use Rattle.bolt_etcd.specs.{Wire.Revisions.revision_in, Wire.Revisions.revision_of, Check.Misplaced.is_misplaced, Check.Follows.creates};
 ghost use Rattle.bolt_etcd.specs.{Check.Follows.follows, Check.Follows.is_next_of};
 
@@ -74,28 +74,28 @@ impl<'a> Revision<'a> {
         Some(Revision::new(entry.key, value, decoded.content.name, decoded.key.main))
     }
 
-    /// The name of the key that it is a revision of.
+    /// The name of the key that the revision is one of.
     pub fn name(&self) -> &'a [u8]
         ensures { result.now ≡ name_of (shown_revision self.now) }
     {
         self.name
     }
 
-    /// The sum of its name.
+    /// The sum of the revision's name.
     pub(crate) fn sum(&self) -> u64
         ensures { result ≡ name_sum (name_of (shown_revision self.now)) }
     {
         self.tag / MAINS
     }
 
-    /// The lower bits of the number of its transaction.
+    /// The lower bits of the number of the revision's transaction.
     pub(crate) fn low_main(&self) -> u64
         ensures { result ≡ self.now.tag % 2 ^ 24 }
     {
         self.tag % MAINS
     }
 
-    /// The sum of its name, and the lower bits of the number of its transaction.
+    /// The sum of the revision's name, and the lower bits of the number of its transaction.
     pub(crate) fn tag(&self) -> u64
         ensures { result ≡ self.now.tag }
     {
@@ -118,7 +118,7 @@ impl<'a> Revision<'a> {
         self.key
     }
 
-    /// The entry that it is.
+    /// The entry that the revision is.
     pub fn entry(&self) -> Entry<'a>
         ensures { shown_entry result ≡ entry_of self.now }
     {
@@ -135,24 +135,32 @@ impl<'a> Revision<'a> {
         self.value
     }
 
-    /// The number of its transaction.
+    /// The number of the revision's transaction.
     pub fn main(&self) -> u64
         ensures { result ≡ (shown_revision self.now).key.main }
     {
         BigEndian::read_u64(self.key)
     }
 
-    /// Compares two by their keys, of which the transactions mostly tell.
+    /// Whether the revision's transaction isn't later than `up_to`.
+    pub fn is_until(&self, up_to: u64) -> bool
+        ensures { result ≡ is_until up_to (shown_revision self.now) }
+    {
+        self.main() <= up_to
+    }
+
+    /// Compares two revisions by their stored keys. Mostly their transactions differ, and no key is read whole.
     pub fn cmp_stored_key(&self, other: &Revision<'_>) -> Ordering
-        ensures { result ≡ key_cmp (entry_of self.now).key (entry_of other.now).key }
+        ensures revisions { result ≡ stored_key_cmp (shown_revision self.now) (shown_revision other.now) }
+        ensures entries { result ≡ key_cmp (entry_of self.now).key (entry_of other.now).key }
     {
         match self.main().cmp(&other.main()) {
-            Ordering::Equal => self.key.cmp(other.key),
+            Ordering::Equal => self.stored_key().cmp(other.stored_key()),
             order => order,
         }
     }
 
-    /// What it says.
+    /// What the revision says: its key and its record.
     pub fn decode(&self) -> DecodedRevision<'a>
         ensures { shown_decoded (shown_revision self.now).stored_key result ≡ shown_revision self.now }
     {
@@ -163,7 +171,7 @@ impl<'a> Revision<'a> {
 impl<'a> Revision<'a> {
     ghost use Rattle.bolt_etcd.specs.Wire.ShownRevisions.{shown_revision};
 
-    /// Whether its record says that another transaction wrote it. A deletion's doesn't say.
+    /// Whether the revision's record says that another transaction wrote it. A deletion's doesn't say.
     #[tactic(auto, unfolding(crate::specs::Check::Misplaced::is_misplaced))]
     pub fn is_misplaced(&self) -> bool
         ensures { result ≡ is_misplaced (shown_revision self.now) }
@@ -171,7 +179,7 @@ impl<'a> Revision<'a> {
         self.decode().is_misplaced()
     }
 
-    /// Whether it can be the first revision of its name: it creates the key.
+    /// Whether the revision can be the first of its name: it creates the key.
     #[tactic(auto, unfolding(crate::specs::Check::Follows::follows))]
     pub fn creates(&self) -> bool
         ensures { result ≡ follows None (shown_revision self.now) }
@@ -179,9 +187,8 @@ impl<'a> Revision<'a> {
         self.decode().creates()
     }
 
-    /// Whether it can be the revision after `before`, which is one of the same name. After a put
-    /// that is a deletion, or the next version of the same key; after a deletion, what creates the
-    /// key.
+    /// Whether the revision can be the one after `before`, which has the same name. After a put that is
+    /// a deletion, or the next version of the same key; after a deletion, what creates the key.
     #[tactic(auto, unfolding(crate::specs::Check::Follows::follows))]
     pub fn follows(&self, before: &Revision<'_>) -> bool
         ensures { result ≡ follows (Some (shown_revision before.now)) (shown_revision self.now) }
@@ -212,7 +219,7 @@ impl<'a> DecodedRevision<'a> {
         Some(DecodedRevision { key, content })
     }
 
-    /// Whether its record says that another transaction wrote it. A deletion's doesn't say.
+    /// Whether the revision's record says that another transaction wrote it. A deletion's doesn't say.
     #[tactic(auto, unfolding(crate::specs::Check::Misplaced::is_misplaced))]
     pub(crate) fn is_misplaced(&self) -> bool
         ensures { (stored_key : Key) → result ≡ is_misplaced (shown_decoded stored_key self.now) }
@@ -220,7 +227,7 @@ impl<'a> DecodedRevision<'a> {
         !self.key.deleted && self.content.modified != self.key.main
     }
 
-    /// Whether it creates its key.
+    /// Whether the revision creates its key.
     fn creates(&self) -> bool
         ensures { (stored_key : Key) → result ≡ creates (shown_decoded stored_key self.now) }
     {
@@ -228,7 +235,7 @@ impl<'a> DecodedRevision<'a> {
         !self.key.deleted && content.version == 1 && content.created == self.key.main
     }
 
-    /// Whether it has the next version of the same key.
+    /// Whether the revision has the version after that of `before`, of the same key.
     fn is_next_of(&self, before: &DecodedRevision<'_>) -> bool
         ensures { (stored_key other : Key)
             → result ≡ is_next_of (shown_decoded other before.now) (shown_decoded stored_key self.now) }

@@ -2,7 +2,7 @@
 ghost use Rattle.std.specs.Prelude.{◌≡◌, length};
 ghost use Rattle.std.specs.Option.{option_map, option_to_list};
 ghost use Rattle.bolt_tree.specs.ShownEntries.{shown_entry};
-ghost use Rattle.bolt_etcd.specs.{Wire.UnreadEntries.other_of, Wire.UnreadEntries.shown_unread};
+ghost use Rattle.bolt_etcd.specs.{Wire.UnreadEntries.unread_entry_of, Wire.UnreadEntries.shown_unread};
 
 use crate::wire::record::Record;
 use crate::wire::revision_key::RevisionKey;
@@ -19,9 +19,9 @@ pub enum UnreadEntry<'a> {
 
 impl<'a> UnreadEntry<'a> {
     /// What an entry is, or `None` if it is a revision or a mark. Needs no memory.
-    #[tactic(auto, unfolding(crate::specs::Wire::UnreadEntries::other_of))]
+    #[tactic(auto, unfolding(crate::specs::Wire::UnreadEntries::unread_entry_of))]
     pub fn of(entry: &Entry<'a>) -> Option<UnreadEntry<'a>>
-        ensures { option_map shown_unread result ≡ other_of (shown_entry entry.now) }
+        ensures { option_map shown_unread result ≡ unread_entry_of (shown_entry entry.now) }
     {
         let Item::Value(value) = entry.item else {
             return Some(UnreadEntry::Key(entry.key));
@@ -36,9 +36,9 @@ impl<'a> UnreadEntry<'a> {
     }
 }
 
-/// How many others an entry is: 1, or 0 if it is a revision or a mark.
-pub(crate) fn others_in(entry: &Entry<'_>) -> u64
-    ensures { result ≡ length (option_to_list (other_of (shown_entry entry.now))) }
+/// 1 if an entry is unread, or 0 if it is a revision or a mark.
+pub(crate) fn count_unread(entry: &Entry<'_>) -> u64
+    ensures { result ≡ length (option_to_list (unread_entry_of (shown_entry entry.now))) }
 {
     match UnreadEntry::of(entry) {
         Some(_) => 1,

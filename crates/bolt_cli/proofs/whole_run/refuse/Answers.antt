@@ -6,7 +6,7 @@ use Rattle.bolt_cli.proofs.whole_run.refuse.Goals as goal
 -- help and the version are printed
 printed : {T O : Type 0} (target : Ghosts T) (output : Ghosts O)
     (why : Refusal) (text : String Global) (deeds : List (Deed T O)) (code : ℕ) → (why ≡ Help text) ⊎ (why ≡ Version text)
-    → PrintsText output.taken output.failed (string_bytes text) (Ok 0) deeds code → Refuses target output why deeds code
+    → PrintsText output (string_bytes text) (Ok 0) deeds code → Refuses target output why deeds code
 printed target output why text deeds code (inl help) prints = rw help prints
 printed target output why text deeds code (inr version) prints = rw version prints
 

@@ -5,13 +5,13 @@ use Rattle.bolt_cli.proofs.whole_run.show.Goals as goal
 pub returns-in-Ok : goal.returns-in-Ok
 returns-in-Ok g c =
     let (ending, does, code, accepts) = c.run-status.ensures in
-    let buffered = buffered_line mem.ghosts.taken mem.ghosts.failed _ _ ending c.new-err.ensures.taken c.new-err.ensures.sound accepts in
+    let buffered = buffered_line mem.ghosts _ _ ending c.new-err.ensures.taken c.new-err.ensures.sound accepts in
     DoesDeeds-after _ c.in-Ok.ensures.done (c.close.ensures ending buffered code)
     (λ deeds closes. (
       (c.in-Ok.ensures.empty, c.in-Ok.ensures.sound),
       c.run-status.new.out,
       ending,
-      shown g.O.Output.Sink.taken g.O.Output.Sink.failed _ _ mem.ghosts.taken mem.ghosts.failed _ _ _ _ ending c.requires does,
+      shown g.O.Output.Sink _ _ mem.ghosts _ _ _ _ ending c.requires does,
       closes,
     ))
 

@@ -13,4 +13,4 @@ returns g c = listed_loads (record {
   no_text = c.a_listings_text_is_read_back.ensures.none;
   no_listing = c.a_listings_text_is_read_back.ensures.empty;
   no_fault = c.a_right_text_has_no_fault.ensures;
-}) g.O.Sink.taken g.O.Sink.failed g.T.Sink.taken g.T.Sink.failed
+}) g.O.Sink g.T.Sink

@@ -27,7 +27,7 @@ pub returns : goal.returns
 unfolding repaired_viewers
 returns c =
     let repair = c.args.repaired.now.repair.now in
-    let both = repair.searched.now in
+    let searched = repair.searched.now in
     let of = c.repaired_listing_is_of_a_tree.ensures in
     record {
       some = ∥∥₁_map repair.goes_back (λ back. (
@@ -38,6 +38,6 @@ returns c =
       one =
           λ listing is.
           ∣ c.a_fit_listing_is_of_one_tree.ensures listing
-          (fit both.file.now both.meta repair.search listing both.bytes is (of.rises both.file.now both.meta repair.search listing is)
-          (of.tree both.file.now both.meta repair.search listing is)) ∣₁;
+          (fit searched.file.now searched.meta repair.search listing searched.bytes is (of.rises searched.file.now searched.meta repair.search listing is)
+          (of.tree searched.file.now searched.meta repair.search listing is)) ∣₁;
     }

@@ -15,7 +15,7 @@ pub returns : goal.returns
 returns g c =
     let checking = c.args.checking in
     let file = checking.input.file.now in
-    let both = c.args.searched.now in
+    let searched = c.args.searched.now in
     let is = c.requires in
     let some = ap is_nothing (sym c.lost-lost.ensures) ∙ sym c.is_nothing.ensures ∙ c.if-is_nothing.false in
     let whole = rw is.bytes at (c.gaps-gaps.ensures some) in
@@ -23,8 +23,8 @@ returns g c =
       is = record {
         answer = _;
         is = (
-          searched_lost checking both (map page_gap_view c.gaps-gaps.result.now) _ is whole
-              (some_lost checking (all_lost both) _ _ some),
+          searched_lost checking searched (map page_gap_view c.gaps-gaps.result.now) _ is whole
+              (some_lost checking (all_lost searched) _ _ some),
           refl,
         );
         does = rw (c.lost-lost.ensures, c.as_slice-found.ensures.value) at c.put_lost_after.ensures;

@@ -16,21 +16,21 @@ returns-in_default g c = record { is = answer_nothing Memory _ (inr (inr ((c.arg
 pub check_kept-requires : goal.check_kept-requires
 check_kept-requires g c =
     let file = c.args.checking.input.file.now in
-    let both = c.args.searched.now in
+    let searched = c.args.searched.now in
     let search = c.requires.search in
     record {
       bytes = c.in-Ok.ensures.file;
       under = rw c.in-Ok.ensures.meta search.under;
       kept = rw c.in-Ok.ensures.meta c.in-Ok.ensures.kept;
-      whole = rw c.in-Ok.ensures.meta (whole_searched file both.meta (all_lost both) c.requires.whole search.lost);
+      whole = rw c.in-Ok.ensures.meta (whole_searched file searched.meta (all_lost searched) c.requires.whole search.lost);
     }
 
 pub returns : goal.returns
 returns g c =
     let checking = c.args.checking in
     let file = checking.input.file.now in
-    let both = c.args.searched.now in
+    let searched = c.args.searched.now in
     comes_as c.check_kept.ensures (λ answer found.
-    searched_lost checking both (recovery_gaps c.in-Ok.recovery) answer c.requires.search
+    searched_lost checking searched (recovery_gaps c.in-Ok.recovery) answer c.requires.search
     (λ all are. c.in-Ok.ensures.gaps all are)
-    (none_lost checking (all_lost both) _ _ c.requires.whole answer found))
+    (none_lost checking (all_lost searched) _ _ c.requires.whole answer found))

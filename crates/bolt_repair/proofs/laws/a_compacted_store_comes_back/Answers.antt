@@ -1,5 +1,5 @@
 use Rattle.std.proofs.Common.{false}
-use Rattle.bolt_repair.proofs.RestoredStores.{comes_back}
+use Rattle.bolt_repair.proofs.RepairedStores.{comes_back}
 use Rattle.bolt_repair.proofs.laws.a_compacted_store_comes_back.Goals as goal
 
 pub returns : goal.returns

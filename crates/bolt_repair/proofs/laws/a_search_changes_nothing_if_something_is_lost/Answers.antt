@@ -4,8 +4,8 @@ use Rattle.bolt_repair.proofs.laws.a_search_changes_nothing_if_something_is_lost
 
 pub returns : goal.returns
 returns c = λ file meta lost listing loses some.
-    let anyway = c.a_loss_is_searched_for_in_any_case.ensures file meta lost in (
-      search_is file meta (λ found. anyway found loses some) listing,
-      search_was file meta (λ found. anyway found loses some) listing (c.sought_pages_are_one.ensures file meta)
+    let in_any_case = c.a_loss_is_searched_for_in_any_case.ensures file meta lost in (
+      search_is file meta (λ found. in_any_case found loses some) listing,
+      search_was file meta (λ found. in_any_case found loses some) listing (c.sought_pages_are_one.ensures file meta)
           (c.each_file_has_sought_pages.ensures file meta),
     )

@@ -8,7 +8,7 @@ pub loop-revision-preserved : goal.loop-revision-preserved
 loop-revision-preserved c =
     let new = λ (r : Revision). is_until c.args.compacted (shown_revision r) ≡ false in
     All-more new c.args.revisions.now c.loop-revision.revision-index c.revision-item.result c.loop-revision-test.true c.loop-revision.invariant
-    (subst new c.revision-item.is (sym c.is_old.ensures ∙ c.if-is_old.false))
+    (subst new c.revision-item.is (sym c.is_until.ensures ∙ c.if-is_until.false))
 
 pub returns : goal.returns
 returns c =

@@ -11,4 +11,4 @@ pub returns : goal.returns
 returns g c =
     let form = c.args.job.now.form in
     let of = rw c.as_slice.ensures.value at c.in_ok-bucket.ensures.found in
-    rw c.ended.ensures (entries_put of c.buckets.result form (buckets_text form) c.buckets.ensures.written c.buckets.ensures.short c.buckets.ensures.fault)
+    rw c.end_report.ensures (entries_put of c.buckets.result form (buckets_text form) c.buckets.ensures.written c.buckets.ensures.short c.buckets.ensures.fault)

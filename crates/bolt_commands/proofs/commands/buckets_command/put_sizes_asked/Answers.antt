@@ -10,4 +10,4 @@ returns-in_err-bucket g c =
 pub returns : goal.returns
 returns g c =
     let of = rw c.as_slice.ensures.value at c.in_ok-bucket.ensures.found in
-    rw c.ended.ensures (sizes_put of c.put_sizes.result c.args.job.now.form c.put_sizes.ensures.written c.put_sizes.ensures.short c.put_sizes.ensures.fault)
+    rw c.end_report.ensures (sizes_put of c.put_sizes.result c.args.job.now.form c.put_sizes.ensures.written c.put_sizes.ensures.short c.put_sizes.ensures.fault)

@@ -57,11 +57,11 @@ returns-in_ok-copied-in-Recovered-clause-read g c =
 
 pub returns-in-Searched-clause-read : goal.returns-in-Searched-clause-read
 returns-in-Searched-clause-read g c =
-    let both = c.in-Searched.searched in
+    let searched = c.in-Searched.searched in
     let to = rw c.in-Searched.is at c.requires in
     let asked = rw (c.meta.ensures, c.in-Searched.is) at c.blueprint_of-blueprint.ensures in
     rw c.in-Searched.is (elim c.copy_joined.ensures [
       | inl (own, is, (made, copy, ends)) ↦
-          copy_read c.args.job.now _ (Searched both) (Searched both) _ (searched_read both to is) asked made copy (on_any made refl) _ ends
+          copy_read c.args.job.now _ (Searched searched) (Searched searched) _ (searched_read searched to is) asked made copy (on_any made refl) _ ends
       | inr (why, unjoined, same, ends) ↦ inr (why, rw to.0 unjoined, same, ends)
     ])

@@ -42,5 +42,5 @@ returns g c =
     let put =
     short_json_put (value_shown job.form job.no_newline c.in-Some.value.now) (entries_ending entries) c.put_value.result
     c.put_value.ensures.written job.form c.put_value.ensures.short c.put_value.ensures.fault in
-    rw (c.end_value.ensures, c.find-newest.ensures.others entries are)
+    rw (c.end_value.ensures, c.find-newest.ensures.unread entries are)
     (answer_at _ _ s of _ (λ store. IsNewestText job) job.at kept (answer_as put (λ answer shown. rw some shown)))

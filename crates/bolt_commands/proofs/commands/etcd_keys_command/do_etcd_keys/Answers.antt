@@ -29,7 +29,7 @@ returns g c =
     let written =
     rw (c.new-lines.ensures.form, c.new-lines.ensures.values, c.as_slice-prefix.ensures.value) at (c.put_current.ensures.written entries are current
     (rw c.up_to.ensures is)) in
-    let knows = known_of c.put_current.result _ c.put_current.ensures.others (λ m all. all entries are) in
+    let knows = known_of c.put_current.result _ c.put_current.ensures.unread (λ m all. all entries are) in
     let put = counted_ended text entries c.put_current.result written knows c.put_current.ensures.fault in
     let kept = c.in_ok-refuse_compacted.ensures.kept (own _ _ s of).0 (here _ _ s of) in
     rw c.end_revisions.ensures (answer_at _ _ s of _ (λ store. IsCurrentText job) job.at kept (answer_as put (λ answer ended. (current, is, ended))))

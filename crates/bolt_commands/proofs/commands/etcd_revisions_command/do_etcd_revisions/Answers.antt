@@ -25,7 +25,7 @@ returns g c =
     let asked = pass.asked entries are in
     let text = revision_lines job.form job.values (named_with job.prefix.items (revisions (entries_asked job.from entries))) in
     let written = rw (asked, c.new-lines.ensures.form, c.new-lines.ensures.values, c.as_slice.ensures.value) at (c.put_pass.ensures.written entries are) in
-    let knows = known_of c.put_pass.result _ c.put_pass.ensures.others (λ m all. rw (asked, pass.others) at (all entries are)) in
+    let knows = known_of c.put_pass.result _ c.put_pass.ensures.unread (λ m all. rw (asked, pass.unread) at (all entries are)) in
     let fault = rw c.new-lines.ensures.form at c.put_pass.ensures.fault in
     rw c.end_revisions.ensures
     (keys_answer _ _ s of _ (IsRevisionsText job) (counted_put text (entries_asked job.from entries) c.put_pass.result written knows job.form fault))

@@ -31,6 +31,6 @@ returns g c =
     let (entries, at, are) = keys _ _ s of in
     let kept = c.in_ok-refuse_compacted.ensures.kept (own _ _ s of).0 (here _ _ s of) in
     let status = rw c.up_to.ensures at (c.in_ok-status.ensures (own _ _ s of).0 (here _ _ s of) entries are) in
-    let number = ap (λ (x : StoreStatus). x.others) status in
+    let number = ap (λ (x : StoreStatus). x.unread) status in
     rw (c.end_status.ensures, number)
     (answer_at _ _ s of _ (IsStatusText job) job.at kept (answer_put _ c.put_status.result refl (rw status at c.put_status.ensures)))

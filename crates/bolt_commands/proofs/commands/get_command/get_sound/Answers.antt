@@ -22,4 +22,4 @@ returns g c =
     held_at c.in_ok-checked.checked (owned_path job.path.items) (Value c.in_ok-value.value.now) trees
     (rw (sym c.as_slice.ensures.value) c.in_ok-value.ensures.holds) in
     let put = short_json_put shown (Ok 0) c.put_value.result c.put_value.ensures.written job.form c.put_value.ensures.short c.put_value.ensures.fault in
-    rw c.ended.ensures (answer_as put (λ answer is. inl (_, opened.sound, inl (_, rw opened.bytes at held, is))))
+    rw c.end_report.ensures (answer_as put (λ answer is. inl (_, opened.sound, inl (_, rw opened.bytes at held, is))))

@@ -6,4 +6,4 @@ pub returns-in_err-slot : goal.returns-in_err-slot
 returns-in_err-slot g c = answer_nothing _ _ (inr (_, c.in_err-slot.ensures.none, refl)) c.from_residual.ensures.1
 
 pub returns : goal.returns
-returns g c = rw c.written.ensures (answer_put _ c.info.result (inl (_, _, c.in_ok-slot.ensures.found, refl)) c.info.ensures)
+returns g c = rw c.end_write.ensures (answer_put _ c.info.result (inl (_, _, c.in_ok-slot.ensures.found, refl)) c.info.ensures)

@@ -15,5 +15,5 @@ returns g c =
     let written =
     rw (c.cursor-cursor.ensures.checked, c.cursor-cursor.ensures.start, c.as_slice-prefix.ensures.value) at c.put_keys_with_prefix.ensures.written in
     let short = rw (c.cursor-cursor.ensures.checked, c.cursor-cursor.ensures.start, c.as_slice-prefix.ensures.value) at c.put_keys_with_prefix.ensures.short in
-    rw c.ended.ensures (entries_put of c.put_keys_with_prefix.result job.form (λ entries. keys_text job.form (with_prefix job.prefix.items entries)) written
+    rw c.end_report.ensures (entries_put of c.put_keys_with_prefix.result job.form (λ entries. keys_text job.form (with_prefix job.prefix.items entries)) written
     short c.put_keys_with_prefix.ensures.fault)

@@ -1,7 +1,7 @@
 -- The part is put, as it is of the joined listing; or there is none.
 use Rattle.std.proofs.Common.{Err, Ok, inl, refl}
 use Rattle.bolt_commands.proofs.{Vocabulary.IsJoined, Vocabulary.joined_file, Vocabulary.joined_left, Vocabulary.joined_meta, Doing.ends_as}
-use Rattle.bolt_commands.proofs.{FoundAnswers.salvaged, ListAnswers.members_put}
+use Rattle.bolt_commands.proofs.{FoundAnswers.joined_with, ListAnswers.members_put}
 use Rattle.bolt_commands.proofs.commands.list_command.put_joined_part.Goals as goal
 
 pub returns-in_err-put_members_part : goal.returns-in_err-put_members_part
@@ -16,7 +16,7 @@ returns-in_err-put_members_part g c =
     members_put c.args.job.now own (IsJoined (joined_file j) (joined_meta j)) (joined_left j) there (joins.all own here)
     (c.joined_members_rise.ensures own there) (Err _) put.fault put.written put.found _
     (ends_as _ _ c.from_residual-in_err-put_members_part.ensures.1) in
-    inl (own, salvaged c.requires joins own is, puts)
+    inl (own, joined_with c.requires joins own is, puts)
 
 pub returns : goal.returns
 returns g c =
@@ -29,4 +29,4 @@ returns g c =
     let puts =
     members_put c.args.job.now own (IsJoined (joined_file j) (joined_meta j)) (joined_left j) there (joins.all own here)
     (c.joined_members_rise.ensures own there) (Ok _) put.fault put.written put.found _ refl in
-    inl (own, salvaged c.requires joins own is, puts)
+    inl (own, joined_with c.requires joins own is, puts)

@@ -42,9 +42,9 @@ returns-in_ok-put_members_part-in-Recovered g c =
 
 pub returns-in-Searched : goal.returns-in-Searched
 returns-in-Searched g c =
-    let both = c.in-Searched.searched in
+    let searched = c.in-Searched.searched in
     let to = rw c.in-Searched.is at c.requires in
     elim c.put_joined_part.ensures [
-      | inl (own, is, puts) ↦ inl (_, own, all_lost both, _, searched_read both to is, on_any c.put_joined_part.result refl, puts)
+      | inl (own, is, puts) ↦ inl (_, own, all_lost searched, _, searched_read searched to is, on_any c.put_joined_part.result refl, puts)
       | inr (why, unjoined, same, ends) ↦ inr (why, rw to.0 unjoined, same, ends)
     ]

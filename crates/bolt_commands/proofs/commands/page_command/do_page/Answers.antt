@@ -8,7 +8,7 @@ returns-in_err-meta g c = answer_nothing _ _ (inr (_, c.in_err-meta.ensures.none
 pub returns : goal.returns
 returns g c =
     let put = c.page_text.ensures in
-    rw c.ended.ensures (record {
+    rw c.end_report.ensures (record {
       answer = _;
       is = inl (c.in_ok-meta.meta, c.in_ok-meta.ensures.found, refl);
       does = page_put _ _ c.page_text.result put.written put.memory put.page put.untouched;

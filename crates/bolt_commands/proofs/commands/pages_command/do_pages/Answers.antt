@@ -15,4 +15,4 @@ returns g c =
     let sound = c.in_ok-roles.ensures.sound in
     let (roles, are) = some_roles c.args.input.file.now (meta_of (roles_checked c.in_ok-roles.roles)) sound.trees (sound.right refl) in
     let put = rw c.in_ok-roles.ensures.bytes at c.put_pages_asked.ensures in
-    rw c.written.ensures (answer_put _ c.put_pages_asked.result (inl (_, read_active _ slot _ chosen sound, (roles, are, refl))) (put roles are))
+    rw c.end_write.ensures (answer_put _ c.put_pages_asked.result (inl (_, read_active _ slot _ chosen sound, (roles, are, refl))) (put roles are))

@@ -22,4 +22,4 @@ pub returns : goal.returns
 returns g c =
     let opened = c.in_ok-checked.ensures in
     let found = rw (opened.bytes, c.as_slice.ensures.value) at c.in_ok-stats.ensures.found in
-    rw c.written.ensures (answer_put _ c.stats_text.result (inl (_, opened.sound, inl (_, found, refl))) c.stats_text.ensures)
+    rw c.end_write.ensures (answer_put _ c.stats_text.result (inl (_, opened.sound, inl (_, found, refl))) c.stats_text.ensures)

@@ -37,7 +37,7 @@ returns-in_err-of_entries-clause-written g c = λ store is.
     entries_hold c.args.root.now c.in-Some.keys c.store_compacted-compacted.result store is c.in-Some.ensures.bucket c.in-Some.ensures.checked
     (c.store_compacted-compacted.ensures store is)
     (λ lines. Wrote g.S.Sink c.put_missing_buckets.new.sink c.put_entry_faults.new.sink (concat lines) broken)
-    (λ es are. c.in_err-of_entries.ensures.written es are (c.in_ok-found.ensures.revisions es are ∙ until_all es, c.in_ok-found.ensures.others es are)) in
+    (λ es are. c.in_err-of_entries.ensures.written es are (c.in_ok-found.ensures.revisions es are ∙ until_all es, c.in_ok-found.ensures.unread es are)) in
     Wrote-same (lines_text c.args.root.now c.in-Some.keys c.store_compacted-compacted.result store is c.in-Some.ensures.bucket c.in-Some.ensures.checked
     (c.store_compacted-compacted.ensures store is))
     (Wrote-then (c.in_ok-of_buckets.ensures.written store is) (Wrote-sink _ _ entries c.from_residual-in_err-of_entries.ensures.1))
@@ -48,7 +48,7 @@ returns-in_err-of_names-clause-written g c = λ store is.
     entries_hold c.args.root.now c.in-Some.keys c.store_compacted-compacted.result store is c.in-Some.ensures.bucket c.in-Some.ensures.checked
     (c.store_compacted-compacted.ensures store is)
     (λ lines. Wrote g.S.Sink c.put_missing_buckets.new.sink c.put_entry_faults.new.sink (concat lines) whole)
-    (λ es are. c.in_ok-of_entries.ensures.written es are (c.in_ok-found.ensures.revisions es are ∙ until_all es, c.in_ok-found.ensures.others es are)) in
+    (λ es are. c.in_ok-of_entries.ensures.written es are (c.in_ok-found.ensures.revisions es are ∙ until_all es, c.in_ok-found.ensures.unread es are)) in
     let names =
     names_hold c.args.root.now c.in-Some.keys c.store_compacted-compacted.result store is c.in-Some.ensures.bucket c.in-Some.ensures.checked
     (c.store_compacted-compacted.ensures store is) c.bucket-2.result
@@ -67,7 +67,7 @@ returns-clause-written g c = λ store is.
     entries_hold c.args.root.now c.in-Some.keys c.store_compacted-compacted.result store is c.in-Some.ensures.bucket c.in-Some.ensures.checked
     (c.store_compacted-compacted.ensures store is)
     (λ lines. Wrote g.S.Sink c.put_missing_buckets.new.sink c.put_entry_faults.new.sink (concat lines) whole)
-    (λ es are. c.in_ok-of_entries.ensures.written es are (c.in_ok-found.ensures.revisions es are ∙ until_all es, c.in_ok-found.ensures.others es are)) in
+    (λ es are. c.in_ok-of_entries.ensures.written es are (c.in_ok-found.ensures.revisions es are ∙ until_all es, c.in_ok-found.ensures.unread es are)) in
     let names =
     names_hold c.args.root.now c.in-Some.keys c.store_compacted-compacted.result store is c.in-Some.ensures.bucket c.in-Some.ensures.checked
     (c.store_compacted-compacted.ensures store is) c.bucket-2.result
@@ -85,7 +85,7 @@ returns-clause-number g c = λ store is.
     entries_hold c.args.root.now c.in-Some.keys c.store_compacted-compacted.result store is c.in-Some.ensures.bucket c.in-Some.ensures.checked
     (c.store_compacted-compacted.ensures store is)
     (λ lines. c.in_ok-of_entries.of_entries ≡ counted 0 (length lines))
-    (λ es are. c.in_ok-of_entries.ensures.number es are (c.in_ok-found.ensures.revisions es are ∙ until_all es, c.in_ok-found.ensures.others es are)) in
+    (λ es are. c.in_ok-of_entries.ensures.number es are (c.in_ok-found.ensures.revisions es are ∙ until_all es, c.in_ok-found.ensures.unread es are)) in
     let names =
     names_hold c.args.root.now c.in-Some.keys c.store_compacted-compacted.result store is c.in-Some.ensures.bucket c.in-Some.ensures.checked
     (c.store_compacted-compacted.ensures store is) c.bucket-2.result

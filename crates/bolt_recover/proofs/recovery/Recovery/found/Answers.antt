@@ -9,7 +9,7 @@ use Rattle.bolt_recover.proofs.recovery.Recovery.found.Goals as goal
 pub returns : goal.returns
 unfolding recovery_viewers
 returns c =
-    let self = c.look_through.new.self in
+    let self = c.run_to_end.new.self in
     let rest = c.new.result in
     let finished = c.in_ok-has_bucket_key.ensures in
     let file = recovery_file c.args.self in

@@ -13,16 +13,16 @@ pub returns-in-Some : goal.returns-in-Some
 returns-in-Some c =
     let e = shown_entry c.args.entry.now in
     let (reads, this) = unread_entry e (shown_unread c.in-Some.other) (sym c.in-Some.ensures) in
-    on_ok_weaker c.add_other.result (λ more before after s.
+    on_ok_weaker c.push_to.result (λ more before after s.
     noted_unread before (store_path ++ e.key ∷ []) e.item _ _ _ s (Some (shown_unread c.in-Some.other)) reads this (entry_no_meta _ e.key refl)
-    (ap (map shown_unread) more ∙ map-append shown_unread c.args.self.now.unread.items (c.in-Some.other ∷ [])) refl (λ t. t)) c.add_other.ensures
+    (ap (map shown_unread) more ∙ map-append shown_unread c.args.self.now.unread.items (c.in-Some.other ∷ [])) refl (λ t. t)) c.push_to.ensures
 
-pub returns-in_ok-add_key : goal.returns-in_ok-add_key
-returns-in_ok-add_key c = λ before after s.
+pub returns-in_ok-push_to : goal.returns-in_ok-push_to
+returns-in_ok-push_to c = λ before after s.
     let now = λ (k : Bor (List ℕ)). k.now in
     let e = shown_entry c.args.entry.now in
     let (reads, none) = readable_entry e (sym c.in_default.ensures) in
-    let more = ap (map now) c.in_ok-add_key.ensures ∙ map-append now c.args.self.now.met.items (c.args.entry.now.key ∷ []) in
+    let more = ap (map now) c.in_ok-push_to.ensures ∙ map-append now c.args.self.now.met.items (c.args.entry.now.key ∷ []) in
     noted_readable before (store_path ++ e.key ∷ []) e.item _ _ _ s reads none (entry_no_meta _ e.key refl) refl refl
     (λ t. key_noted _ _ _ (readable_after before (store_path ++ e.key ∷ []) e.item after) _ _ _ _ _ t e.key refl _ c.in_ok-keep_revision.ensures _ more
     (c.has_candidate.ensures.0 c.if-has_candidate.true))

@@ -13,10 +13,10 @@ members-init c =
     let now = λ (k : Bor (List ℕ)). k.now in
     let candidates = map entry_of c.args.candidates.now in
     record {
-      reads = λ listing is. rw (c.in_ok-kept.ensures.file, c.in_ok-kept.ensures.meta) is;
+      reads = λ listing is. rw (c.in_ok-recovered.ensures.file, c.in_ok-recovered.ensures.meta) is;
       noted = λ listing is. (
         [],
-        c.in_ok-kept.ensures.all listing is,
+        c.in_ok-recovered.ensures.all listing is,
         record {
           store =
               subst (λ (keys : List (Bor (List ℕ))). IsRecoveredStore [] candidates None None (map shown_revision c.in_ok-room.room.items) (map now keys))

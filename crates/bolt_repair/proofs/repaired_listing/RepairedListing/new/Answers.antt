@@ -1,4 +1,4 @@
--- What goes back is merged with what is kept of the same file, and then the bucket `meta` if it is made.
+-- What goes back is merged with the recovered members of the same file that etcd can read, and then the bucket `meta` if it is made.
 use Rattle.std.proofs.Common.{◌∙◌, [], ap, ap₂, List, map, sym}
 use Rattle.std.proofs.{Math.Logic.∥∥₁_elim, Props.props}
 use Rattle.bolt_tree.specs.{InBuckets.members_in, Merges.merge}
@@ -12,12 +12,13 @@ use Rattle.bolt_repair.proofs.repaired_listing.RepairedListing.new.Goals as goal
 pub invariant_of-result : goal.invariant_of-result
 invariant_of-result c =
     let repair = c.args.repair.now in
-    let kept = c.in_ok-kept.ensures in
+    let readable = c.in_ok-readable.ensures in
     let same = ap (λ (entries : List Revision). members_in repair.is_made store_path (map entry_of entries)) c.as_slice.ensures.value in
     record {
       reads = ∣
           c.new-4.ensures.reads _ _
-          (c.new-3.ensures.reads _ _ (rw (kept.file, kept.meta) (c.the_recovered_listing_is_recovered.ensures repair.searched.now.file.now repair.searched.now.meta))
+          (c.new-3.ensures.reads _ _
+          (rw (readable.file, readable.meta) (c.the_recovered_listing_is_recovered.ensures repair.searched.now.file.now repair.searched.now.meta))
           (sym (c.in_ok-back.ensures.listing ∙ same)))
           (sym c.in_ok-meta.ensures.listing)
           ∣₁;
@@ -36,7 +37,7 @@ returns-clause-all c = λ listing is.
     c.new-4.ensures.left (the_recovered file meta, members_in repair.is_made store_path (repair_back repair)) (members_in repair.makes_meta meta_path [])
     ∙ ap₂ merge
     (c.new-3.ensures.left (the_recovered file meta) (members_in repair.is_made store_path (repair_back repair))
-    ∙ ap₂ merge (c.in_ok-kept.ensures.all _ recovered ∙ stripped) (c.in_ok-back.ensures.left ∙ c.in_ok-back.ensures.listing ∙ same))
+    ∙ ap₂ merge (c.in_ok-readable.ensures.all _ recovered ∙ stripped) (c.in_ok-back.ensures.left ∙ c.in_ok-back.ensures.listing ∙ same))
     (c.in_ok-meta.ensures.left ∙ c.in_ok-meta.ensures.listing)
     ∙ merged_repaired file meta repair.search (c.sought_pages_are_one.ensures file meta repair.search) _ recovered (repair_back repair) (repair_made repair)
     back listing is)

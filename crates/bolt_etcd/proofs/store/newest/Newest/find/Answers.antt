@@ -39,8 +39,8 @@ returns-clause-revision c = λ entries are.
     ∙ c.rest.invariant.last entries are
     ∙ ap (last_or None) (sym (filter_both (is_named c.args.name.now) (is_until c.args.up_to) (revisions entries)))
 
-pub returns-clause-others : goal.returns-clause-others
-returns-clause-others c =
-    counted_all c.args.bucket.now _ _ _ c.rest.invariant.passed c.next.ensures.given c.next.ensures.counts c.others.result
+pub returns-clause-unread : goal.returns-clause-unread
+returns-clause-unread c =
+    counted_all c.args.bucket.now _ _ _ c.rest.invariant.passed c.next.ensures.given c.next.ensures.counts c.unread.result
     (ap (option_map shown_revision) c.in_default.is)
-    c.others.ensures c.others.type_inv
+    c.unread.ensures c.unread.type_inv

@@ -43,8 +43,8 @@ returns-clause-revisions c = λ entries are.
     ∙ ap (λ (rs : List RevisionView). map shown_revision c.rest.collected.items ++ until c.args.up_to rs) (sym none)
     ∙ c.rest.invariant.all entries are
 
-pub returns-clause-others : goal.returns-clause-others
-returns-clause-others c =
-    counted_all c.args.bucket.now _ _ _ c.rest.invariant.passed c.next.ensures.given c.next.ensures.counts c.others.result
+pub returns-clause-unread : goal.returns-clause-unread
+returns-clause-unread c =
+    counted_all c.args.bucket.now _ _ _ c.rest.invariant.passed c.next.ensures.given c.next.ensures.counts c.unread.result
     (ap (option_map shown_revision) c.in_default.is)
-    c.others.ensures c.others.type_inv
+    c.unread.ensures c.unread.type_inv

@@ -1,12 +1,12 @@
-use Rattle.bolt_etcd.specs.{Wire.UnreadEntries.other_of, Store.RevisionsLeft.number_ahead, Store.RevisionsLeft.pass_others}
+use Rattle.bolt_etcd.specs.{Wire.UnreadEntries.unread_entry_of, Store.RevisionsLeft.number_ahead, Store.RevisionsLeft.pass_unread}
 use Rattle.std.proofs.Common.{◌≡◌}
 use Rattle.bolt_etcd.proofs.PassSteps.{GoesBy}
 use Rattle.bolt_etcd.proofs.store.revisions.Revisions.next_unread.Given as goal
 
 abbrev pub invariant-rest : goal.invariant-rest
 invariant-rest l = record {
-  goes : GoesBy other_of l.fn.self l.self;
-  others : pass_others l.self ≡ pass_others l.fn.self;
+  goes : GoesBy unread_entry_of l.fn.self l.self;
+  unread : pass_unread l.self ≡ pass_unread l.fn.self;
 }
 
 abbrev pub decreases-rest : goal.decreases-rest

@@ -1,7 +1,7 @@
 use Rattle.std.proofs.Common.{◌∙◌, ap, ap₂, length, max, sym, ℕ}
 use Rattle.std.proofs.lemmas.List.{length-map}
 use Rattle.bolt_etcd.specs.{Store.HashKv.hash_kv, Store.HashKv.hash_unless, Wire.ShownRevisions.shown_revision, Store.Statuses.or_zero}
-use Rattle.bolt_etcd.specs.{Store.Stores.others}
+use Rattle.bolt_etcd.specs.{Store.Stores.unread_elements}
 use Rattle.bolt_etcd.proofs.store.status.StoreStatus.find.Goals as goal
 
 pub returns : goal.returns
@@ -15,8 +15,8 @@ returns c = λ store is entries are.
     let revisions = c.count-numbers.ensures.revisions entries are in
     let index = c.meta_number.ensures store is in
     let term = c.meta_number-2.ensures store is in
-    let hash = c.sum_unless.ensures entries are ∙ ap (λ (n : ℕ). hash_unless (others entries) (hash_kv c.args.up_to n entries)) compacted in
-    let number = c.in_ok-current.ensures.others entries are in
+    let hash = c.sum_unless.ensures entries are ∙ ap (λ (n : ℕ). hash_unless (unread_elements entries) (hash_kv c.args.up_to n entries)) compacted in
+    let number = c.in_ok-current.ensures.unread entries are in
     λ i. record {
       revision = revision i;
       newest = newest i;
@@ -26,5 +26,5 @@ returns c = λ store is entries are.
       consistent_index = index i;
       term = term i;
       hash = hash i;
-      others = number i;
+      unread = number i;
     }

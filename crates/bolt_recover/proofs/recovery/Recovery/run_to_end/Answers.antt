@@ -1,6 +1,6 @@
 -- What was returned is looked at, and then all is reported.
 use Rattle.std.proofs.Common.{arith}
-use Rattle.bolt_recover.proofs.recovery.Recovery.look_through.Goals as goal
+use Rattle.bolt_recover.proofs.recovery.Recovery.run_to_end.Goals as goal
 
 pub loop-self-init : goal.loop-self-init
 loop-self-init c = grind (arith, c.requires)

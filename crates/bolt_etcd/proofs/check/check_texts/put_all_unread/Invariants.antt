@@ -1,8 +1,8 @@
 use Rattle.std.proofs.Common.{◌≡◌, map}
-use Rattle.bolt_etcd.specs.{Check.CheckLines.other_line, Wire.UnreadEntries.others_of, Store.RevisionsLeft.ForPass, Store.RevisionsLeft.ahead_of}
+use Rattle.bolt_etcd.specs.{Check.CheckLines.unread_entry_line, Wire.UnreadEntries.unread_entries, Store.RevisionsLeft.ForPass, Store.RevisionsLeft.ahead_of}
 use Rattle.bolt_etcd.specs.{Store.RevisionsLeft.number_ahead, Store.RevisionsLeft.pass_checked, Store.RevisionsLeft.pass_start}
 use Rattle.bolt_etcd.proofs.ListedTexts.{Listed}
-use Rattle.bolt_etcd.proofs.check.check_texts.put_others.Given as goal
+use Rattle.bolt_etcd.proofs.check.check_texts.put_all_unread.Given as goal
 
 -- the lines of those that are ahead are still to be written, and the others were counted
 abbrev pub invariant-rest : goal.invariant-rest
@@ -11,8 +11,8 @@ invariant-rest g l = record {
   start : pass_start l.pass ≡ pass_start l.fn.pass;
   listed : ForPass l.fn.pass
       (λ entries.
-      Listed g.S.Sink l.initial.sink l.sink (map other_line (others_of (ahead_of l.fn.pass entries)))
-      (map other_line (others_of (ahead_of l.pass entries))) l.number);
+      Listed g.S.Sink l.initial.sink l.sink (map unread_entry_line (unread_entries (ahead_of l.fn.pass entries)))
+      (map unread_entry_line (unread_entries (ahead_of l.pass entries))) l.number);
 }
 
 abbrev pub decreases-rest : goal.decreases-rest

@@ -1,7 +1,7 @@
 use Rattle.std.proofs.Common.{◌≡◌, ◌<◌, ◌^◌, ◌||◌, length}
 use Rattle.bolt_check.specs.Counts.{counted, saturated}
 use Rattle.bolt_recover.proofs.Words.{ForRecovered, holds_key, recovery_file, recovery_left, recovery_meta, recovery_work}
-use Rattle.bolt_recover.proofs.recovery.Recovery.look_through.Given as goal
+use Rattle.bolt_recover.proofs.recovery.Recovery.run_to_end.Given as goal
 
 -- the same file under the same meta, and what isn't left was looked at and counted
 abbrev pub invariant-loop-self : goal.invariant-loop-self

@@ -1,12 +1,12 @@
 //! Why there is no joined listing of a damaged file.
 ghost use Rattle.std.specs.Prelude.{◌≡◌};
-ghost use Rattle.bolt_recover.specs.declared.recover_fault.RecoverFault.TheVariants as faults;
+ghost use Rattle.bolt_recover.specs.declared.join_fault.JoinFault.TheVariants as faults;
 
 use bolt_check::{Finding, NoMemory};
 
 /// Why there is no joined listing of a damaged file (docs/RECOVERY.md, "The joined listing").
 #[derive(Clone, Copy, Debug, PartialEq, Eq)]
-pub enum RecoverFault {
+pub enum JoinFault {
     /// The root page is lost, with this finding, and no page is found.
     Rootless(Finding),
     /// A page is found, and the recovered root bucket has an entry `lost+found`.
@@ -17,10 +17,10 @@ pub enum RecoverFault {
     Memory,
 }
 
-impl From<NoMemory> for RecoverFault {
+impl From<NoMemory> for JoinFault {
     ghost from_gives = { λ _ fault. fault ≡ faults.Memory };
 
     fn from(_fault: NoMemory) -> Self {
-        RecoverFault::Memory
+        JoinFault::Memory
     }
 }

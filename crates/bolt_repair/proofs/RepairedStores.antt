@@ -172,10 +172,10 @@ module _ (listing recovered : List Member) (found : List LeafElement) (compacted
             (inr (subst (Contains more) is (member_there is_made (entry_view element) back ((are.exact (entry_view element)).1 (goes_back element there)))))
       ]
 
-  pub restored : (tree : Tree) × (listing ≡ listing_of tree) → (back : List EntryView) → AreBack compacted recovered found back → (is_made : Bool)
+  pub is_repaired : (tree : Tree) × (listing ≡ listing_of tree) → (back : List EntryView) → AreBack compacted recovered found back → (is_made : Bool)
       → MakesStore recovered back is_made
       → Rises member_cmp (with_back recovered is_made back) → with_back recovered is_made back ≡ listing
-  restored of back are is_made makes order =
+  is_repaired of back are is_made makes order =
       rises_once member_total (with_back recovered is_made back) listing order rises (repaired_listed of back are is_made makes)
       (listed_repaired back are is_made)
 
@@ -260,5 +260,5 @@ module _ (file : List ℕ) (meta : Meta) (listing repaired : List Member) (l : L
       is.repaired ∙ ap (merge (with_back (readable r.recovered) is.made.store is.back)) (none_made is.made.meta r.makes_meta)
       ∙ merge_none (with_back (readable r.recovered) is.made.store is.back)
       ∙ ap (λ (ms : List Member). with_back ms is.made.store is.back) read in
-      same ∙ restored listing r.recovered (on r.found) l.compacted l.listed.rises loses l.store of is.back are is.made.store makes
+      same ∙ is_repaired listing r.recovered (on r.found) l.compacted l.listed.rises loses l.store of is.back are is.made.store makes
       (subst (Rises member_cmp) same order)
