@@ -73,7 +73,7 @@ failures: $(PROGRAM) out/refuse.so out/listed_long.db out/damaged.db out/many_lo
 	tools/try/failures.sh $(PROGRAM)
 
 # Refuses each request for memory in turn, under every command.
-memory: $(PROGRAM) $(CALLS) out/refuse.so out/nested.db out/deep.db out/damaged.db
+memory: $(PROGRAM) $(CALLS) out/refuse.so out/nested.db out/deep.db out/damaged.db out/found.db
 	tools/try/memory.sh $(PROGRAM) $(CALLS)
 
 # Counts requests for memory and instructions, which show work that isn't needed or grows too fast.
@@ -210,11 +210,13 @@ out/short_half.db out/short_all.db: out/short.db
 $(LOST_STORES): tools/bench/zero_leaves.py
 	$(MAKER) $< $(filter %.db,$^) $@ 0 $(BRANCHES)
 
-# A real database in which a page of etcd's keys is overwritten with zeros.
-out/damaged.db: examples/etcd.db
+# A real database in which a leaf of etcd's keys is overwritten with zeros; and the branch above the leaves, which are found then.
+out/damaged.db: PAGE = 9
+out/found.db: PAGE = 15
+out/damaged.db out/found.db: examples/etcd.db
 	mkdir -p $(@D)
 	cp $< $@
-	dd if=/dev/zero of=$@ bs=4096 seek=9 count=1 conv=notrunc status=none
+	dd if=/dev/zero of=$@ bs=4096 seek=$(PAGE) count=1 conv=notrunc status=none
 
 # 8 MB, of which 1,500 leaves are overwritten with zeros: their losses take more than 64 KiB of output.
 out/many_lost.db: tools/bench/make_large.py tools/bench/zero_leaves.py
