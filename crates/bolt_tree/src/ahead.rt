@@ -62,6 +62,7 @@ impl<'a, M: Members<'a>> Ahead<'a, M> {
 }
 
 impl<'a, M> Ahead<'a, M> {
+    /// Members of which none was read ahead.
     pub fn new(members: M) -> Ahead<'a, M>
         ensures members { result.members ≡ members }
         ensures unread { result.head ≡ firsts.Unread }
